@@ -2,7 +2,7 @@
  *
  * A group is opened with 1 to 256 places. A client sits down at a place, makes its calls and leaves; then another one
  * may sit there. No call opens a socket, starts a thread or waits for another call: the program carries the bodies of
- * requests and responses. The last place that is closed frees the group.
+ * requests and responses. The last place that is closed frees the group. The library is for x86-64 Linux with glibc.
  *
  * Bytes in. A giq_bytes is an address and a count; the bytes are read during the call alone. Keys, prefixes and names
  * are UTF-8, arguments, rules and responses JSON texts, IDs UUIDs (RFC 9562, any of its text forms). They may not lie
@@ -11,10 +11,11 @@
  * Bytes out. answer.bytes belongs to the library and is good until the next call of the same place, giq_close too.
  * Each call that takes an answer writes it: where it is refused there are no bytes, and `code` may say more.
  *
- * What a call returns. 0 or above: it was done, or asks for a run (GIQ_ASKED). Below 0: a refusal, an enum giq_number;
- * nothing was changed then, but that GIQ_STATE_NOT_FOUND closes the group. Each call may be refused with GIQ_NO_MEMORY,
- * at a closed place with GIQ_NO_PLACE, and where it needs a client with GIQ_NO_CLIENT. A call begins anew where others
- * are in its way, 1,000,000 times at the most; then it is refused with GIQ_MOVED, GIQ_BUSY or GIQ_GONE.
+ * What a call returns. 0 or above: it was done, or asks for a run (GIQ_ASKED). Below 0: a refusal, an enum giq_number,
+ * of which giq_message says what it is; nothing was changed then, but that GIQ_STATE_NOT_FOUND closes the group. Each
+ * call may be refused with GIQ_NO_MEMORY, at a closed place with GIQ_NO_PLACE, and where it needs a client with
+ * GIQ_NO_CLIENT. A call begins anew where others are in its way, 1,000,000 times at the most; then it is refused with
+ * GIQ_MOVED, GIQ_BUSY or GIQ_GONE.
  *
  * Mutators of the program's own. A group that is opened with own_mutators has no others. Then a mutation, and an end of
  * a pull where mutations stay pending, answer GIQ_ASKED: the program runs the mutator on the run's map, by the calls
@@ -37,7 +38,8 @@
  * arguments, the reason and the run's map alone. What a call answers then is proved, for any bytes and numbers, also at
  * a place that was closed.
  *
- * Three functions are exported: giq_open, giq_call and giq_close. The others are written over them here.
+ * Five functions are exported: giq_open, giq_call, giq_close, giq_rules_fault and giq_version. The others are written
+ * over them here. giq_open_places refuses a library of another version than this header's.
  */
 #ifndef GIQAYMU_H
 #define GIQAYMU_H
@@ -69,17 +71,20 @@ typedef struct giq_bytes {
 typedef struct giq_answer {
     giq_bytes bytes; /* of the library, good until the next call of the place */
     uint64_t number; /* an id, or the number of a ticket or of a watch; else 0 */
-    uint32_t code;   /* of GIQ_REFUSED: the mutator's; of GIQ_VERSION_NOT_SUPPORTED: an enum giq_version; else 0 */
+    uint32_t code;   /* of GIQ_REFUSED the mutator's; of GIQ_VERSION_NOT_SUPPORTED an enum giq_version_kind; else 0 */
 } giq_answer;
 
 /* What a call returns. */
 enum giq_number {
-    GIQ_OK = 0,   /* it was done; or no */
-    GIQ_NONE = 1, /* it was done, and there is nothing: no value, no new rows; or the pull changed nothing */
+    /* by tools/refusals: header of numbers */
+    /* it was done; or no */
+    GIQ_OK = 0,
+    /* it was done, and there is nothing: no value, no new rows; or the pull changed nothing */
+    GIQ_NONE = 1,
+    /* yes */
     GIQ_YES = 2,
-    GIQ_ASKED = 3, /* the change asks for a run of one of the program's own mutators */
-
-    /* by tools/refusals: header of all */
+    /* the change asks for a run of one of the program's own mutators */
+    GIQ_ASKED = 3,
     /* memory was refused: free some and call again */
     GIQ_NO_MEMORY = -1,
     /* other clients changed the group first, as often as the call tries: call again */
@@ -141,12 +146,20 @@ enum giq_number {
     /* the place is closed: open a group */
     GIQ_NO_PLACE = -110,
     /* no change of the place asks for a run: mutate, or end a pull */
-    GIQ_NOT_ASKED = -111
+    GIQ_NOT_ASKED = -111,
+    /* the library is of another version than what calls it: build both of one version */
+    GIQ_BAD_VERSION = -201
     /* tools/refusals: end */
 };
 
+/* The version of this header: major * 10000 + minor * 100 + patch. */
+#define GIQ_VERSION 10000
+
+/* This bit of what giq_version answers says that the library was built without its proof. */
+#define GIQ_UNPROVED 0x80000000
+
 /* Which version a server does not support. */
-enum giq_version { GIQ_UNKNOWN_VERSION = 0, GIQ_PUSH_VERSION = 1, GIQ_PULL_VERSION = 2, GIQ_SCHEMA_VERSION = 3 };
+enum giq_version_kind { GIQ_UNKNOWN_VERSION = 0, GIQ_PUSH_VERSION = 1, GIQ_PULL_VERSION = 2, GIQ_SCHEMA_VERSION = 3 };
 
 /* Where the rows of a scan begin: at the first key, at a key, or after it. */
 enum giq_start { GIQ_ANY = 0, GIQ_AT = 1, GIQ_AFTER = 2 };
@@ -226,6 +239,13 @@ int32_t giq_call(giq_place *place, uint32_t what, uint32_t m, uint64_t n, const 
  * closed stays so. */
 void giq_close(giq_place *place);
 
+/* Tells what is wrong with rules, in the `room` bytes from `text` on. See giq_check_rules. */
+int64_t giq_rules_fault(const uint8_t *rules, size_t rules_len, uint8_t *text, size_t room);
+
+/* The version of the library, as GIQ_VERSION is this header's; with the bit GIQ_UNPROVED where it was built without its
+ * proof. Any thread may call it at any time. */
+uint32_t giq_version(void);
+
 /* ---- bytes */
 
 /* The bytes of a text that ends with a zero, without it. */
@@ -258,14 +278,114 @@ static inline int32_t giq_ask(giq_place *place, enum giq_what what, uint32_t m, 
     return giq_call(place, (uint32_t)what, m, n, giq_at(a), a.len, giq_at(b), b.len, answer);
 }
 
+/* What a number that a call returned says, and what the caller can do about it; any other number is said to be none. */
+static inline const char *giq_message(int32_t number) {
+    switch (number) {
+    /* by tools/refusals: header messages of numbers */
+    case GIQ_OK:
+        return "it was done; or no";
+    case GIQ_NONE:
+        return "it was done, and there is nothing: no value, no new rows; or the pull changed nothing";
+    case GIQ_YES:
+        return "yes";
+    case GIQ_ASKED:
+        return "the change asks for a run of one of the program's own mutators";
+    case GIQ_NO_MEMORY:
+        return "memory was refused: free some and call again";
+    case GIQ_MOVED:
+        return "other clients changed the group first, as often as the call tries: call again";
+    case GIQ_BUSY:
+        return "a slot or a pin was lost to other clients, as often as the call tries: call again";
+    case GIQ_GONE:
+        return "a slot was given again while it was looked for: call again";
+    case GIQ_FULL:
+        return "no slot is free for the change: close readers, end a pull that confirms, or open a larger group";
+    case GIQ_STAMPS:
+        return "the group has too few stamps left: open a new group";
+    case GIQ_STALE:
+        return "the client's last id is not the one that the group has: refresh it and call again";
+    case GIQ_NO_MUTATOR:
+        return "no mutator has this name";
+    case GIQ_REFUSED:
+        return "the mutator refused, with the code";
+    case GIQ_NOT_JSON:
+        return "the bytes are no JSON text, or one that nests too deep";
+    case GIQ_BAD_SHAPE:
+        return "a field is missing, of a wrong type or out of range";
+    case GIQ_NOT_WHOLE:
+        return "a number is not whole, or does not fit 64 bits";
+    case GIQ_OVERTAKEN:
+        return "another pull was applied since this one began: begin a new one";
+    case GIQ_COOKIE_WENT_BACK:
+        return "the response's cookie is below the group's: begin a new pull";
+    case GIQ_COOKIE_NOT_NEW:
+        return "the cookie is as high as the group's, but the response brings something: begin a new pull";
+    case GIQ_ID_WENT_BACK:
+        return "the response confirms less of a client than was confirmed: begin a new pull";
+    case GIQ_STATE_NOT_FOUND:
+        return "the server does not know the client group, which is closed by this: open a new one";
+    case GIQ_VERSION_NOT_SUPPORTED:
+        return "the server does not support the version of this kind";
+    case GIQ_NO_SEAT:
+        return "all seats are out: give one back";
+    case GIQ_CLOSED:
+        return "the group is closed, since the server does not know it: open a new one";
+    case GIQ_NOT_UTF8:
+        return "the bytes are not UTF-8";
+    case GIQ_BAD_UUID:
+        return "the text is no UUID (RFC 9562)";
+    case GIQ_OUT_OF_RANGE:
+        return "a number is none of those that it may be";
+    case GIQ_NO_TICKET:
+        return "the place has no ticket of this number: begin a pull";
+    case GIQ_NO_WATCH:
+        return "the place has no watch of this number: begin a watch";
+    case GIQ_BAD_RULES:
+        return "the rules are faulty";
+    case GIQ_IN_USE:
+        return "a client sits at the place: let it leave first";
+    case GIQ_ASKS:
+        return "a change of the place asks for a run of a mutator: do it, or give the change up";
+    case GIQ_NO_CLIENT:
+        return "no client sits at the place: sit down first";
+    case GIQ_NO_PLACE:
+        return "the place is closed: open a group";
+    case GIQ_NOT_ASKED:
+        return "no change of the place asks for a run: mutate, or end a pull";
+    case GIQ_BAD_VERSION:
+        return "the library is of another version than what calls it: build both of one version";
+    /* tools/refusals: end */
+    default:
+        return "no call returns this number";
+    }
+}
+
 /* ---- a group */
 
+/* Whether the library has this header's major and minor number. A program that calls giq_open itself asks before. */
+static inline int giq_is_of_version(void) { return (giq_version() & ~GIQ_UNPROVED) / 100 == GIQ_VERSION / 100; }
+
+/* What is wrong with rules that are refused with GIQ_BAD_RULES: the first fault with its place, a JSON Pointer, as
+ * "/add/0/2: unknown word" (docs/RULES.md). As snprintf does, it writes as much of that text as fits in `size` bytes,
+ * with a zero behind it, and returns how many bytes the whole text has without the zero. 0: nothing is wrong, or there
+ * are no rules. GIQ_NO_MEMORY: the text is empty. Any thread may call it at any time; `text` may not lie where `rules`
+ * do. */
+static inline int64_t giq_check_rules(giq_bytes rules, char *text, size_t size) {
+    char none;
+    const size_t room = size == 0 ? 0 : size - 1;
+    const int64_t told = giq_rules_fault(giq_at(rules), rules.len, (uint8_t *)(size == 0 ? &none : text), room);
+    if (size != 0) text[told < 0 ? 0 : (uint64_t)told < room ? (size_t)told : room] = 0;
+    return told;
+}
+
 /* Opens a group at `count` places, 1 to GIQ_MAX_PLACES, none of which is open; the group is in memory and starts empty.
- * Where it is refused the places are closed: GIQ_BAD_UUID, GIQ_NOT_UTF8, GIQ_BAD_RULES (also rules beside mutators of
- * the program's own), GIQ_OUT_OF_RANGE (slots, places or own_mutators), GIQ_NO_MEMORY. */
+ * Where it is refused the places are closed: GIQ_BAD_VERSION (see giq_is_of_version), GIQ_BAD_UUID, GIQ_NOT_UTF8,
+ * GIQ_BAD_RULES (see giq_check_rules; also rules beside mutators of the program's own), GIQ_OUT_OF_RANGE (slots, places
+ * or own_mutators), GIQ_NO_MEMORY. */
 static inline int32_t giq_open_places(const giq_opening *with, giq_place *places, size_t count) {
+    if (count != 0) memset(places, 0, count * sizeof *places);
+    if (!giq_is_of_version()) return GIQ_BAD_VERSION;
     if (count == 0) return GIQ_OUT_OF_RANGE;
-    memset(places, 0, count * sizeof *places);
     return giq_open(giq_at(with->group), with->group.len, giq_at(with->profile), with->profile.len,
                     giq_at(with->schema), with->schema.len, giq_at(with->rules), with->rules.len, with->slots,
                     with->own_mutators, places, count);
@@ -301,7 +421,7 @@ static inline int32_t giq_get(giq_place *place, giq_bytes key, giq_answer *answe
     return giq_ask(place, GIQ_CALL_GET, 0, 0, key, giq_nothing(), answer);
 }
 
-/* Whether the key is there: GIQ_YES or GIQ_OK. */
+/* Whether the key is there: GIQ_YES or GIQ_OK. Compare with GIQ_YES: a refusal isn't 0 either. */
 static inline int32_t giq_has(giq_place *place, giq_bytes key, giq_answer *answer) {
     return giq_ask(place, GIQ_CALL_HAS, 0, 0, key, giq_nothing(), answer);
 }
@@ -323,7 +443,7 @@ static inline int32_t giq_cookie(giq_place *place, giq_answer *answer) {
     return giq_ask(place, GIQ_CALL_COOKIE, 0, 0, giq_nothing(), giq_nothing(), answer);
 }
 
-/* Whether the group is closed, since the server does not know it: GIQ_YES or GIQ_OK. */
+/* Whether the group is closed, since the server does not know it: GIQ_YES or GIQ_OK, as giq_has. */
 static inline int32_t giq_closed(giq_place *place, giq_answer *answer) {
     return giq_ask(place, GIQ_CALL_CLOSED, 0, 0, giq_nothing(), giq_nothing(), answer);
 }
@@ -373,7 +493,7 @@ static inline int32_t giq_forget_ticket(giq_place *place, uint32_t ticket, giq_a
  * server's map; GIQ_ASKED where one of those is to be run by the program. GIQ_NONE where the response brings nothing.
  * The ticket stays.
  * Refused: GIQ_NO_TICKET, GIQ_NOT_JSON, GIQ_BAD_SHAPE, GIQ_NOT_WHOLE, GIQ_OVERTAKEN, GIQ_COOKIE_WENT_BACK,
- * GIQ_COOKIE_NOT_NEW, GIQ_ID_WENT_BACK, GIQ_STATE_NOT_FOUND, GIQ_VERSION_NOT_SUPPORTED with an enum giq_version,
+ * GIQ_COOKIE_NOT_NEW, GIQ_ID_WENT_BACK, GIQ_STATE_NOT_FOUND, GIQ_VERSION_NOT_SUPPORTED with an enum giq_version_kind,
  * GIQ_FULL, GIQ_STAMPS, GIQ_CLOSED, GIQ_MOVED, GIQ_BUSY, GIQ_GONE. */
 static inline int32_t giq_end_pull(giq_place *place, uint32_t ticket, giq_bytes response, giq_answer *answer) {
     return giq_ask(place, GIQ_CALL_END_PULL, ticket, 0, response, giq_nothing(), answer);
@@ -381,12 +501,13 @@ static inline int32_t giq_end_pull(giq_place *place, uint32_t ticket, giq_bytes 
 
 /* ---- mutators of the program's own: each call is refused with GIQ_NOT_ASKED where no run is asked for */
 
-/* The name of the mutator that is to be run; answer->number is the reason, an enum giq_reason. */
+/* The name of the mutator that is to be run; answer->number is the reason, an enum giq_reason. The name is good until
+ * the place's next call: copy it before giq_asked_args. */
 static inline int32_t giq_asked_name(giq_place *place, giq_answer *answer) {
     return giq_ask(place, GIQ_CALL_ASKED_NAME, 0, 0, giq_nothing(), giq_nothing(), answer);
 }
 
-/* Its arguments, a compact JSON text. */
+/* Its arguments, a compact JSON text. Copy them before the run's map is read. */
 static inline int32_t giq_asked_args(giq_place *place, giq_answer *answer) {
     return giq_ask(place, GIQ_CALL_ASKED_ARGS, 0, 0, giq_nothing(), giq_nothing(), answer);
 }
@@ -397,7 +518,7 @@ static inline int32_t giq_draft_get(giq_place *place, giq_bytes key, giq_answer 
     return giq_ask(place, GIQ_CALL_DRAFT_GET, 0, 0, key, giq_nothing(), answer);
 }
 
-/* Whether the key is there in the run's map: GIQ_YES or GIQ_OK. Refused: as giq_draft_get. */
+/* Whether the key is there in the run's map: GIQ_YES or GIQ_OK, as giq_has. Refused: as giq_draft_get. */
 static inline int32_t giq_draft_has(giq_place *place, giq_bytes key, giq_answer *answer) {
     return giq_ask(place, GIQ_CALL_DRAFT_HAS, 0, 0, key, giq_nothing(), answer);
 }

@@ -575,7 +575,7 @@ class Restarts(unittest.TestCase):
                     status, answer = child.post("/push", push_of(*[mutation(acknowledged + n) for n in range(1, 4)]))
                     self.assertEqual((status, answer), (200, {}))
                     acknowledged += 3
-            except OSError:
+            except (OSError, http.client.HTTPException):  # it may die in the middle of an answer
                 child.kill()
         child = ServerChild(database, port)
         self.addCleanup(child.close)

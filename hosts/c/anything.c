@@ -113,6 +113,16 @@ static void check(int32_t returned, const giq_answer *answer) {
     (void)read;
 }
 
+/* Of rules by which a group was opened or not it is told what is wrong where they were refused, and only there. */
+static void check_rules(giq_bytes rules, int32_t returned) {
+    char text[ROOM];
+    const int64_t told = giq_check_rules(rules, text, sizeof text);
+    if (told < 0 && (told != GIQ_NO_MEMORY || refused == 0)) fail("not told", (long)told);
+    if (told >= 0 && told < ROOM && strlen(text) > (size_t)told) fail(text, (long)told);
+    if (told == 0 && returned == GIQ_BAD_RULES) fail("nothing wrong", returned);
+    if (told > 0 && returned == GIQ_OK) fail(text, returned);
+}
+
 /* Closes all places, opens a group there, and lets clients sit down. */
 static void open_any(giq_place *places) {
     static uint8_t rooms[4][ROOM];
@@ -128,6 +138,7 @@ static void open_any(giq_place *places) {
     opening.rules = opening.own_mutators == 0 || below(20) == 0 ? given(rooms[3], RULES, PIECES - 1) : giq_nothing();
     opening.slots = below(4) == 0 ? (uint32_t)number() % GIQ_MAX_PLACES : 16 + (uint32_t)below(64);
     returned = giq_open_places(&opening, places, PLACES);
+    if (opening.own_mutators == 0) check_rules(opening.rules, returned);
     for (i = 0; i < PLACES; i++) {
         if ((places[i].is_open != 0) != (returned == GIQ_OK)) fail("open", returned);
         (void)giq_sit(&places[i], giq_text(pieces[IDS + i]), &answer);

@@ -1,5 +1,6 @@
 /* Clients of one group on threads whose stacks have GIQ_STACK bytes. Four threads mutate at once, and no mutation may
- * be lost; then one makes calls with values, arguments, responses and rules that nest as deep as they may. */
+ * be lost; each reads long values that the others put; then one makes calls with values, arguments, responses and rules
+ * that nest as deep as they may. */
 #define _POSIX_C_SOURCE 200809L
 #include "giqaymu.h"
 
@@ -9,7 +10,13 @@
 
 #define PUT(key, value) "{\"op\":\"put\",\"key\":\"" key "\",\"value\":" value "}"
 
-enum { THREADS = 4, MUTATIONS = 2000, SLOTS = 65536, DEEP = 124 };
+#ifdef __SANITIZE_THREAD__ /* gcc's ThreadSanitizer keeps what it knows of a thread on the thread's stack */
+#define STACK (4 * GIQ_STACK)
+#else
+#define STACK GIQ_STACK
+#endif
+
+enum { THREADS = 4, MUTATIONS = 2000, PUTS = 200, KEYS = 20, LONG = 300, SLOTS = 65536, DEEP = 124 };
 
 static const char FIRST[] =
     "{\"cookie\":1,\"lastMutationIDChanges\":{},\"patch\":[" PUT("n", "0") "]}";
@@ -23,8 +30,9 @@ static void fail(const char *what, long number) {
     exit(EXIT_FAILURE);
 }
 
-static void done(const char *what, int32_t number) {
+static int32_t done(const char *what, int32_t number) {
     if (number < 0) fail(what, number);
+    return number;
 }
 
 static void wanted(const char *what, giq_bytes bytes, const char *text) {
@@ -38,7 +46,7 @@ static void on_threads(size_t count, void *(*work)(void *), giq_place *places) {
     pthread_t threads[THREADS];
     pthread_attr_t with;
     size_t i;
-    if (pthread_attr_init(&with) != 0 || pthread_attr_setstacksize(&with, GIQ_STACK) != 0) fail("stack", GIQ_STACK);
+    if (pthread_attr_init(&with) != 0 || pthread_attr_setstacksize(&with, STACK) != 0) fail("stack", STACK);
     for (i = 0; i < count; i++) {
         if (pthread_create(&threads[i], &with, work, &places[i]) != 0) fail("thread", (long)i);
     }
@@ -54,6 +62,28 @@ static void *increments(void *place) {
     for (i = 1; i <= MUTATIONS; i++) {
         done("incr", giq_mutate((giq_place *)place, giq_text("incr"), giq_text("[\"n\",1]"), i, &answer));
         if (answer.number != i) fail("id", (long)answer.number);
+    }
+    return NULL;
+}
+
+/* Puts long values, and reads those that the other threads put, each of one letter. */
+static void *puts_and_gets(void *place) {
+    char args[LONG + 32];
+    giq_place *at = (giq_place *)place;
+    giq_answer answer;
+    int i;
+    size_t j;
+    for (i = 0; i < PUTS; i++) {
+        int start = sprintf(args, "[\"k%d\",\"", i % KEYS);
+        memset(args + start, 'a' + i % 26, LONG);
+        strcpy(args + start + LONG, "\"]");
+        done("put", giq_mutate(at, giq_text("put"), giq_text(args), 1, &answer));
+        sprintf(args, "k%d", 3 * i % KEYS);
+        if (done("get", giq_get(at, giq_text(args), &answer)) == GIQ_NONE) continue;
+        if (answer.bytes.len != LONG + 2) fail("length", (long)answer.bytes.len);
+        for (j = 2; j <= LONG; j++) {
+            if (answer.bytes.at[j] != answer.bytes.at[1]) fail("torn", (long)j);
+        }
     }
     return NULL;
 }
@@ -96,7 +126,7 @@ static void open_all(giq_place *places) {
     char *end;
     size_t i;
 
-    end = rules + sprintf(rules, "{\"deep\":[[\"put\",\"e\",");
+    end = rules + sprintf(rules, "{\"put\":[[\"put\",[\"arg\",0],[\"arg\",1]]],\"deep\":[[\"put\",\"e\",");
     end = nested(end, DEEP - 1, "[\"or\",null,", "[\"arg\",0]", "]");
     sprintf(end, "]]}");
     opening.group = giq_text("00000000-0000-4000-8000-000000000001");
@@ -127,8 +157,10 @@ int main(void) {
         if (answer.number != MUTATIONS) fail("last id", (long)answer.number);
     }
     printf("%d threads, %s mutations, none lost\n", THREADS, sum);
+    on_threads(THREADS, puts_and_gets, places);
+    printf("%d values, none torn\n", THREADS * PUTS);
     on_threads(1, goes_deep, places);
-    printf("nested %d deep in %d bytes of stack\n", DEEP, GIQ_STACK);
+    printf("nested %d deep in %d bytes of stack\n", DEEP, STACK);
     for (i = 0; i < THREADS; i++) giq_close(&places[i]);
     return EXIT_SUCCESS;
 }

@@ -26,7 +26,7 @@ class Build(build_py):
 
     def run(self):
         if not LIBRARY.exists():
-            raise SystemExit(f"there is no {LIBRARY}: run hosts/build first")
+            raise SystemExit(f"there is no {LIBRARY}: run hosts/build first, or hosts/build --unproved to try it")
         shutil.rmtree(self.build_lib, ignore_errors=True)  # modules of an earlier build that are gone
         super().run()
         if not self.editable_mode:

@@ -2,15 +2,17 @@
 
 from __future__ import annotations
 
+import ctypes
 import gc
 import json
 import re
 import threading
 import unittest
 from pathlib import Path
+from unittest import mock
 
 from giqaymu import edge
-from giqaymu.edge import Draft, Ended, Group, Json, Place, Refusal, Refuse, Version, Why
+from giqaymu.edge import Draft, Ended, Group, Json, Place, Refusal, Refuse, Version, VersionKind, Why
 
 ID = "00000000-0000-4000-8000-000000000001"
 ANNA = "00000000-0000-4000-8000-00000000000a"
@@ -119,6 +121,8 @@ class Calls(unittest.TestCase):
             anna.mutate("set", ["a", float("nan")])
         with self.assertRaises(ValueError):
             anna.mutate("set", ["a", 1], -1)
+        with self.assertRaisesRegex(TypeError, "args is to be bytes, and is str"):
+            anna.mutate_json("set", '["a",1]')
 
     def test_full(self) -> None:
         anna, _ = seated(16)
@@ -138,8 +142,11 @@ class Calls(unittest.TestCase):
         self.refused(Why.COOKIE_NOT_NEW, pull, anna, response(5, put("n", 1)))
         self.refused(Why.ID_WENT_BACK, pull, anna, response(6, anna=2))
         body = b'{"error":"VersionNotSupported","versionType":"schema"}'
-        self.refused(Why.VERSION_NOT_SUPPORTED, pull, anna, body, code=Version.SCHEMA)
+        self.refused(Why.VERSION_NOT_SUPPORTED, pull, anna, body, code=VersionKind.SCHEMA)
         ticket, of_bert = anna.begin_pull(), bert.begin_pull()
+        for body in ("{}", bytearray(b"{}"), None):
+            with self.assertRaisesRegex(TypeError, f"response is to be bytes, and is {type(body).__name__}"):
+                anna.end_pull(ticket, body)
         self.refused(Why.NO_TICKET, bert.forget, ticket)
         self.refused(Why.NO_TICKET, anna.end_pull, of_bert, response(6))
         bert.forget(of_bert)
@@ -174,6 +181,19 @@ class Calls(unittest.TestCase):
         for name in ("slots", "places"):
             with self.assertRaises(ValueError):
                 Group(ID, **{name: 2**32}, **words)
+
+    def test_faulty_rules(self) -> None:
+        """What is wrong is told with its place, however long it is."""
+        name = "é/" * 300
+        for rules, fault in (
+            ({"add": [["put", "k", ["adds", 1, 2]]]}, "/add/0/2: unknown word"),
+            ({name: 1}, f"/{name.replace('/', '~1')}: no list of steps"),
+            ([], "no JSON object"),
+        ):
+            with self.assertRaises(Refusal) as told:
+                Group(ID, profile="p1", schema="s1", rules=rules)
+            self.assertEqual((told.exception.why, told.exception.fault), (Why.BAD_RULES, fault))
+            self.assertEqual(str(told.exception), f"BAD_RULES: the rules are faulty: {fault}")
 
     def test_fresh_ids(self) -> None:
         anna, bert = Group(ID, profile="p1", schema="s1", places=2).places
@@ -297,7 +317,7 @@ class OwnMutators(unittest.TestCase):
     def test_opening(self) -> None:
         with self.assertRaises(Refusal) as told:
             Group(ID, profile="p1", schema="s1", rules=RULES, mutators={})
-        self.assertEqual(told.exception.why, Why.BAD_RULES)
+        self.assertEqual((told.exception.why, told.exception.fault), (Why.BAD_RULES, ""))
 
 
 class Threads(unittest.TestCase):
@@ -340,9 +360,31 @@ class Numbers(unittest.TestCase):
         self.assertEqual({why.name: why.value for why in Why}, {k: n for k, n in numbers.items() if n < 0})
         calls = {f"CALL_{what.name}": what.value for what in edge._What}
         self.assertEqual(calls, {k: n for k, n in numbers.items() if k.startswith("CALL_")})
-        versions = {f"{v.name}_VERSION": v.value for v in Version}
-        self.assertEqual(versions, {k: n for k, n in numbers.items() if k.endswith("_VERSION")})
+        kinds = {f"{kind.name}_VERSION": kind.value for kind in VersionKind}
+        self.assertEqual(kinds, {k: n for k, n in numbers.items() if k.endswith("_VERSION") and n >= 0})
         self.assertIn(f"#define GIQ_STACK {edge.STACK}\n", header)
+        major, minor, patch, _ = edge.version()
+        self.assertIn(f"#define GIQ_VERSION {10000 * major + 100 * minor + patch}\n", header)
+        self.assertIn(f"#define GIQ_UNPROVED {edge._UNPROVED:#x}\n", header)
+
+    def test_messages(self) -> None:
+        self.assertEqual(Why.GONE.message, "a slot was given again while it was looked for: call again")
+        self.assertEqual([why for why in Why if not why.message], [])
+
+    def test_versions(self) -> None:
+        """A library of another major or minor version is refused."""
+        def loaded(number: int) -> None:
+            library = mock.Mock(**{"giq_version.return_value": number})
+            with mock.patch.object(ctypes, "CDLL", return_value=library):
+                edge._library.__wrapped__()
+
+        for number in (10000, 10099, edge._UNPROVED | 10000):
+            loaded(number)
+        for number in (9999, 10100, 20000, edge._UNPROVED | 10100):
+            with self.assertRaises(Refusal) as told:
+                loaded(number)
+            self.assertEqual(told.exception.why, Why.BAD_VERSION)
+        self.assertEqual(edge._version_of(edge._UNPROVED | 1020304), Version(102, 3, 4, proved=False))
 
 
 if __name__ == "__main__":

@@ -12,6 +12,7 @@ import unittest
 import zipfile
 from pathlib import Path
 
+from giqaymu import version
 from server import Server
 from todo import RULES_AT_SERVER
 
@@ -42,7 +43,8 @@ class Package(unittest.TestCase):
             room = Path(name)
             pip = [sys.executable, "-m", "pip", "--disable-pip-version-check"]
             run(*pip, "wheel", "-q", "--no-build-isolation", "--no-deps", "--no-index", "-w", room, PACKAGE, cwd=room)
-            (wheel,) = room.glob("giqaymu-*-py3-none-*.whl")
+            major, minor, patch, _ = version()
+            (wheel,) = room.glob(f"giqaymu-{major}.{minor}.{patch}-py3-none-*.whl")
             names = zipfile.ZipFile(wheel).namelist()
             self.assertIn("giqaymu/libgiqaymu.so", names)
             self.assertIn("giqaymu/py.typed", names)

@@ -6,6 +6,7 @@ import fcntl
 import json
 import os
 import resource
+import shutil
 import subprocess
 import sys
 import threading
@@ -14,7 +15,8 @@ from typing import Any
 from unittest import mock
 
 import todo
-from giqaymu import Closed, NotSafe, Offline, Refusal, Replicache, Reply, SetAside, store
+from giqaymu import Closed, NotSafe, Offline, Poster, Refusal, Replicache, Reply, SetAside, store
+from giqaymu.edge import json_bytes
 from giqaymu.store import left_behind
 from support import WithServer, rows
 
@@ -279,6 +281,59 @@ class Recovered(WithServer):
         again.pull(now=True).result(5)
         self.holds(lambda: rows(again).get("n/x") == 1)
         self.holds(lambda: len(list(self.store.glob("*.lock"))) == 1)
+
+
+class Judged(WithServer):
+    """Groups that no process holds, and whose pushes the server refuses."""
+
+    def left_by_two(self) -> tuple[str, str]:
+        """The groups of two processes that ended with a mutation pending, in the order in which they are tried."""
+        reps = [self.rep(store=self.store, pusher=offline, puller=offline, schema_version="1") for _ in range(2)]
+        for rep in reps:
+            rep.mutate.once(rep.client_group_id)
+            rep.close()
+        first, second = sorted(rep.client_group_id for rep in reps)
+        return first, second
+
+    def answering(self, group: str, status: int) -> Poster:
+        """A pusher that answers this status to the pushes of one group, and counts them; the others are done."""
+        def push(body: bytes, headers: dict[str, str]) -> Reply:
+            words = json.loads(body)
+            if words["clientGroupID"] == group:
+                self.answered += 1
+                return Reply(status, b"no")
+            return Reply(200, json_bytes(self.server.space.push(words)))
+
+        self.answered = 0
+        return push
+
+    @mock.patch("giqaymu.recovery.MOST_REFUSALS", 3)
+    def test_what_the_server_refuses_for_ever_is_set_aside(self) -> None:
+        first, second = self.left_by_two()
+        aside: list[SetAside] = []
+        errors: list[str] = []
+        online: list[bool] = []
+        self.rep(store=self.store, schema_version="2", pusher=self.answering(first, 400), on_set_aside=aside.append,
+                 on_error=lambda what, error: errors.append(what), on_online_change=online.append)
+        self.holds(lambda: aside)
+        self.assertEqual((aside[0].why, aside[0].path.name), ("push: status 400, b'no'", f"{first}.refused"))
+        self.assertEqual([one.args for one in aside[0].mutations], [first])
+        self.holds(lambda: not list(self.store.glob(f"{second}.*")))  # the one behind it was recovered
+        self.assertEqual((self.answered, errors, online), (3, ["recovery"] * 2, [True]))
+
+    @mock.patch("giqaymu.recovery.MOST_REFUSALS", 3)
+    def test_what_may_be_mended_is_not_set_aside(self) -> None:
+        for status in (401, 403, 404, 429, 500):
+            with self.subTest(status=status):
+                first, _ = self.left_by_two()
+                aside: list[SetAside] = []
+                rep = self.rep(store=self.store, schema_version="2", pusher=self.answering(first, status),
+                               on_set_aside=aside.append)
+                self.holds(lambda: self.answered > 5)
+                rep.close()
+                self.assertEqual(aside, [])
+                self.assertTrue((self.store / f"{first}.journal").exists())
+                shutil.rmtree(self.store)
 
 
 class Disk(WithServer):

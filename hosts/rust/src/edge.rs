@@ -1,5 +1,6 @@
 //! The calls across the edge to the library: all that is unsafe.
 
+use crate::version::Version;
 use std::ffi::c_void;
 use std::{ptr, slice};
 
@@ -100,6 +101,31 @@ unsafe extern "C" {
         answer: *mut Answer,
     ) -> i32;
     fn giq_close(place: *mut Handle);
+    fn giq_rules_fault(rules: *const u8, rules_len: usize, text: *mut u8, room: usize) -> i64;
+    safe fn giq_version() -> u32;
+}
+
+/// The version of the library that is linked.
+pub fn version() -> Version {
+    Version::of(giq_version())
+}
+
+/// What is wrong with rules, written into the room for it as far as that goes; how long it is. None where memory was
+/// refused.
+fn tell_fault(rules: &str, room: &mut [u8]) -> Option<usize> {
+    // SAFETY: each pointer and length are those of a slice, and no pointer is NULL; `rules` is only read, and nobody
+    // else uses `room` during the call.
+    let told = unsafe { giq_rules_fault(rules.as_ptr(), rules.len(), room.as_mut_ptr(), room.len()) };
+    usize::try_from(told).ok()
+}
+
+/// What is wrong with rules; nothing where memory was refused, too.
+pub(crate) fn rules_fault(rules: &str) -> String {
+    let mut text = vec![0; tell_fault(rules, &mut []).unwrap_or(0)];
+    match tell_fault(rules, &mut text) {
+        Some(_) => String::from_utf8_lossy(&text).into_owned(),
+        None => String::new(),
+    }
 }
 
 // SAFETY: a place may be used by one thread after another, since the library keeps nothing of it in a thread. It is not

@@ -1,8 +1,8 @@
 //! What a group is opened with.
 
-use crate::edge::Handle;
+use crate::edge::{Handle, rules_fault, version};
 use crate::place::Place;
-use crate::refusal::Refusal;
+use crate::refusal::{OpenError, Refusal};
 
 /// What a client group is opened with. The group lives in memory, starts empty, and is freed with the last of its
 /// places.
@@ -21,14 +21,14 @@ pub struct Group<'a> {
 }
 
 impl<'a> Group<'a> {
-    /// Opens the group with `N` places, 1 to 256. Refused with `BadUuid`, `BadRules`, `OutOfRange` (slots or places)
-    /// and `NoMemory`.
-    pub fn open<const N: usize>(&self) -> Result<[Place; N], Refusal> {
+    /// Opens the group with `N` places, 1 to 256. Refused with `BadVersion`, `BadUuid`, `BadRules`, `OutOfRange` (slots
+    /// or places) and `NoMemory`.
+    pub fn open<const N: usize>(&self) -> Result<[Place; N], OpenError> {
         Ok(as_many(self.open_places(N)?))
     }
 
     /// Opens the group with so many places. Refused as [`Group::open`].
-    pub fn open_places(&self, count: usize) -> Result<Vec<Place>, Refusal> {
+    pub fn open_places(&self, count: usize) -> Result<Vec<Place>, OpenError> {
         self.places(false, count)
     }
 
@@ -38,12 +38,20 @@ impl<'a> Group<'a> {
         OwnGroup { group: self }
     }
 
-    fn places(&self, own: bool, count: usize) -> Result<Vec<Place>, Refusal> {
+    fn places(&self, own: bool, count: usize) -> Result<Vec<Place>, OpenError> {
+        if !version().is_called() {
+            return Err(OpenError { refusal: Refusal::BadVersion, fault: String::new() });
+        }
         let texts = [self.id, self.profile, self.schema, self.rules];
         match Handle::open(texts, self.slots, own, count) {
             Ok(handles) => Ok(handles.into_iter().map(Place::new).collect()),
-            Err(returned) => Err(Refusal::of(returned, 0)),
+            Err(returned) => Err(self.refused(Refusal::of(returned, 0))),
         }
+    }
+
+    fn refused(&self, refusal: Refusal) -> OpenError {
+        let fault = if refusal == Refusal::BadRules { rules_fault(self.rules) } else { String::new() };
+        OpenError { refusal, fault }
     }
 }
 
@@ -55,12 +63,12 @@ pub struct OwnGroup<'a> {
 
 impl OwnGroup<'_> {
     /// Opens the group with `N` places, 1 to 256. Refused as [`Group::open`], and with `BadRules` where it has rules.
-    pub fn open<const N: usize>(&self) -> Result<[Place; N], Refusal> {
+    pub fn open<const N: usize>(&self) -> Result<[Place; N], OpenError> {
         Ok(as_many(self.open_places(N)?))
     }
 
     /// Opens the group with so many places. Refused as [`OwnGroup::open`].
-    pub fn open_places(&self, count: usize) -> Result<Vec<Place>, Refusal> {
+    pub fn open_places(&self, count: usize) -> Result<Vec<Place>, OpenError> {
         self.group.places(true, count)
     }
 }

@@ -73,10 +73,12 @@ mod own;
 mod place;
 mod refusal;
 mod scan;
+mod version;
 
-pub use edge::STACK;
+pub use edge::{STACK, version};
 pub use group::{Group, OwnGroup};
 pub use own::{Draft, Ran, Reason, Run};
 pub use place::{Ended, Place, Ticket, Watch};
-pub use refusal::{Refusal, Version};
+pub use refusal::{OpenError, Refusal, VersionKind};
 pub use scan::{Scan, Start};
+pub use version::Version;

@@ -5,7 +5,7 @@ use std::fmt;
 
 /// Which version a server does not support.
 #[derive(Clone, Copy, Debug, PartialEq, Eq, Hash)]
-pub enum Version {
+pub enum VersionKind {
     /// It didn't say.
     Unknown,
     /// That of pushes.
@@ -16,13 +16,13 @@ pub enum Version {
     Schema,
 }
 
-impl Version {
-    fn of(code: u32) -> Version {
+impl VersionKind {
+    fn of(code: u32) -> VersionKind {
         match code {
-            1 => Version::Push,
-            2 => Version::Pull,
-            3 => Version::Schema,
-            _ => Version::Unknown,
+            1 => VersionKind::Push,
+            2 => VersionKind::Pull,
+            3 => VersionKind::Schema,
+            _ => VersionKind::Unknown,
         }
     }
 }
@@ -67,7 +67,7 @@ pub enum Refusal {
     /// The server does not know the client group, which is closed by this.
     StateNotFound,
     /// The server does not support the version of this kind.
-    VersionNotSupported(Version),
+    VersionNotSupported(VersionKind),
     /// All seats are out.
     NoSeat,
     /// The group is closed, since the server does not know it.
@@ -94,6 +94,8 @@ pub enum Refusal {
     NoPlace,
     /// No change of the place asks for a run.
     NotAsked,
+    /// The library is of another version than what calls it.
+    BadVersion,
     // tools/refusals: end
     /// What this crate doesn't know: the library is a later one.
     Unknown(i32),
@@ -121,7 +123,7 @@ impl Refusal {
             -15 => Refusal::CookieNotNew,
             -16 => Refusal::IdWentBack,
             -17 => Refusal::StateNotFound,
-            -18 => Refusal::VersionNotSupported(Version::of(code)),
+            -18 => Refusal::VersionNotSupported(VersionKind::of(code)),
             -19 => Refusal::NoSeat,
             -20 => Refusal::Closed,
             -101 => Refusal::NotUtf8,
@@ -135,6 +137,7 @@ impl Refusal {
             -109 => Refusal::NoClient,
             -110 => Refusal::NoPlace,
             -111 => Refusal::NotAsked,
+            -201 => Refusal::BadVersion,
             // tools/refusals: end
             other => Refusal::Unknown(other),
         }
@@ -196,6 +199,9 @@ impl Refusal {
             Refusal::NoClient => "no client sits at the place: sit down first",
             Refusal::NoPlace => "the place is closed: open a group",
             Refusal::NotAsked => "no change of the place asks for a run: mutate, or end a pull",
+            Refusal::BadVersion => {
+                "the library is of another version than what calls it: build both of one version"
+            }
             // tools/refusals: end
             Refusal::Unknown(_) => "the library answered an unknown number",
         }
@@ -207,7 +213,7 @@ impl fmt::Display for Refusal {
         f.write_str(self.message())?;
         match self {
             Refusal::Refused(code) => write!(f, " ({code})"),
-            Refusal::VersionNotSupported(version) => write!(f, " ({version:?})"),
+            Refusal::VersionNotSupported(kind) => write!(f, " ({kind:?})"),
             Refusal::Unknown(number) => write!(f, " ({number})"),
             _ => Ok(()),
         }
@@ -215,3 +221,28 @@ impl fmt::Display for Refusal {
 }
 
 impl Error for Refusal {}
+
+/// Why a group was not opened.
+#[derive(Clone, Debug, PartialEq, Eq)]
+pub struct OpenError {
+    /// The refusal.
+    pub refusal: Refusal,
+    /// What is wrong with rules that were refused with `BadRules`, and where, as `/add/0/2: unknown word`
+    /// (`docs/RULES.md`). It is empty where they only stand beside mutators of the program's own, and where memory was
+    /// refused.
+    pub fault: String,
+}
+
+impl fmt::Display for OpenError {
+    fn fmt(&self, f: &mut fmt::Formatter<'_>) -> fmt::Result {
+        write!(f, "{}{}{}", self.refusal, if self.fault.is_empty() { "" } else { ": " }, self.fault)
+    }
+}
+
+impl Error for OpenError {}
+
+impl From<OpenError> for Refusal {
+    fn from(error: OpenError) -> Refusal {
+        error.refusal
+    }
+}

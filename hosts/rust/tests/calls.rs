@@ -1,6 +1,6 @@
 //! Each call, and each refusal that a call of this crate can be brought to.
 
-use giqaymu::{Ended, Group, Place, Refusal, Scan, Start, Version};
+use giqaymu::{Ended, Group, OpenError, Place, Refusal, Scan, Start, VersionKind};
 
 const ID: &str = "00000000-0000-4000-8000-000000000001";
 const ANNA: &str = "00000000-0000-4000-8000-00000000000a";
@@ -143,7 +143,7 @@ fn refused_pulls() -> Result<(), Refusal> {
     assert_eq!(pull(&mut anna, &response("5", "", put)), Err(Refusal::CookieNotNew));
     assert_eq!(pull(&mut anna, &response("6", &format!(r#""{ANNA}":2"#), put)), Err(Refusal::IdWentBack));
     let wrong = r#"{"error":"VersionNotSupported","versionType":"schema"}"#;
-    assert_eq!(pull(&mut anna, wrong), Err(Refusal::VersionNotSupported(Version::Schema)));
+    assert_eq!(pull(&mut anna, wrong), Err(Refusal::VersionNotSupported(VersionKind::Schema)));
     let (one, _) = anna.begin_pull()?;
     let (two, _) = anna.begin_pull()?;
     assert_ne!(one, two);
@@ -180,13 +180,25 @@ fn sitting() -> Result<(), Refusal> {
 
 #[test]
 fn opening() {
-    let refused = |group: Group<'_>| group.open_places(1).err();
+    let refused = |group: Group<'_>| group.open_places(1).err().map(Refusal::from);
     assert_eq!(refused(Group { id: "1", ..GROUP }), Some(Refusal::BadUuid));
     assert_eq!(refused(Group { slots: 15, ..GROUP }), Some(Refusal::OutOfRange));
-    assert_eq!(refused(Group { rules: r#"{"a":[["fly"]]}"#, ..GROUP }), Some(Refusal::BadRules));
-    assert_eq!(GROUP.open_places(0).err(), Some(Refusal::OutOfRange));
-    assert_eq!(GROUP.open_places(257).err(), Some(Refusal::OutOfRange));
-    assert_eq!(GROUP.open_places(256).map(|places| places.len()), Ok(256));
+    let many = |count: usize| GROUP.open_places(count).map(|places| places.len()).map_err(Refusal::from);
+    assert_eq!([many(0), many(257), many(256)], [Err(Refusal::OutOfRange), Err(Refusal::OutOfRange), Ok(256)]);
+}
+
+#[test]
+fn faulty_rules() {
+    let told = |rules: &str| Group { rules, ..GROUP }.open::<1>().expect_err("a fault");
+    let fault = "/add/0/2: unknown word".to_owned();
+    let rules = r#"{"add":[["put","k",["adds",1,2]]]}"#;
+    assert_eq!(told(rules), OpenError { refusal: Refusal::BadRules, fault });
+    assert_eq!(told(rules).to_string(), "the rules are faulty: /add/0/2: unknown word");
+    let name = "é/".repeat(300);
+    assert_eq!(told(&format!(r#"{{"{name}":1}}"#)).fault, format!("/{}: no list of steps", name.replace('/', "~1")));
+    let beside = GROUP.own_mutators().open::<1>().expect_err("rules beside mutators of the program's own");
+    assert_eq!(beside, OpenError { refusal: Refusal::BadRules, fault: String::new() });
+    assert_eq!(beside.to_string(), "the rules are faulty");
 }
 
 #[test]

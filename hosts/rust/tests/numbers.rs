@@ -1,6 +1,6 @@
 //! The refusals are those of the header, by their names and numbers.
 
-use giqaymu::{Refusal, STACK};
+use giqaymu::{Refusal, STACK, version};
 
 const HEADER: &str = include_str!("../../../include/giqaymu.h");
 
@@ -17,7 +17,7 @@ fn numbers() -> impl Iterator<Item = (String, i32)> {
 #[test]
 fn names_are_those_of_the_header() {
     let refusals: Vec<(String, i32)> = numbers().filter(|(_, number)| *number < 0).collect();
-    assert_eq!(refusals.len(), 31);
+    assert_eq!(refusals.len(), 32);
     for (name, number) in refusals {
         let refusal = format!("{:?}", Refusal::of(number, 0));
         assert_eq!(refusal.split('(').next(), Some(name.as_str()), "{number}");
@@ -28,4 +28,12 @@ fn names_are_those_of_the_header() {
 #[test]
 fn the_stack_is_that_of_the_header() {
     assert!(HEADER.contains(&format!("#define GIQ_STACK {STACK}\n")));
+}
+
+#[test]
+fn the_version_is_that_of_the_header_and_of_the_crate() {
+    let version = version();
+    let number = version.major * 10_000 + version.minor * 100 + version.patch;
+    assert!(HEADER.contains(&format!("#define GIQ_VERSION {number}\n")));
+    assert_eq!(version.to_string().split(' ').next(), Some(env!("CARGO_PKG_VERSION")));
 }

@@ -142,7 +142,7 @@ fn no_mutation_is_lost() -> Result<(), Refusal> {
 
 #[test]
 fn opening() {
-    let refused = |group: Group<'_>| group.own_mutators().open_places(1).err();
+    let refused = |group: Group<'_>| group.own_mutators().open_places(1).err().map(Refusal::from);
     assert_eq!(refused(Group { rules: "{}", ..GROUP }), Some(Refusal::BadRules));
     assert_eq!(refused(Group { slots: 15, ..GROUP }), Some(Refusal::OutOfRange));
 }

@@ -24,8 +24,10 @@ from .edge import (
     Row,
     Ticket,
     Version,
+    VersionKind,
     Watch,
     Why,
+    version,
 )
 from .groups import NotSafe
 from .journal import PendingMutation
@@ -67,7 +69,9 @@ __all__ = [
     "Transport",
     "UpdateNeeded",
     "Version",
+    "VersionKind",
     "Watch",
     "Why",
     "WriteTransaction",
+    "version",
 ]

@@ -49,8 +49,10 @@ __all__ = [
     "STACK",
     "Ticket",
     "Version",
+    "VersionKind",
     "Watch",
     "Why",
+    "version",
 ]
 
 STACK = 262144
@@ -95,10 +97,16 @@ class Why(enum.IntEnum):
     NO_CLIENT = -109
     NO_PLACE = -110
     NOT_ASKED = -111
+    BAD_VERSION = -201
     # tools/refusals: end
 
+    @property
+    def message(self) -> str:
+        """What happened, and what the caller can do about it."""
+        return _MESSAGES[self]
 
-class Version(enum.IntEnum):
+
+class VersionKind(enum.IntEnum):
     """Which version a server does not support: the code of `Why.VERSION_NOT_SUPPORTED`."""
 
     UNKNOWN = 0
@@ -110,17 +118,22 @@ class Version(enum.IntEnum):
 class Refusal(Exception):
     """A call was refused. Nothing was changed, but that `Why.STATE_NOT_FOUND` closes the group.
 
-    `code` is that of the mutator where `why` is `Why.REFUSED`, and a `Version` where it is `Why.VERSION_NOT_SUPPORTED`.
+    `code` is that of the mutator where `why` is `Why.REFUSED`, and a `VersionKind` where it is
+    `Why.VERSION_NOT_SUPPORTED`. `fault` says what is wrong with rules where it is `Why.BAD_RULES`, and where:
+    `/add/0/2: unknown word` (`docs/RULES.md`). It is empty where they only stand beside mutators of the program's own,
+    and where memory was refused.
     """
 
-    def __init__(self, why: Why, code: int = 0) -> None:
-        super().__init__(why, code)
+    def __init__(self, why: Why, code: int = 0, fault: str = "") -> None:
+        super().__init__(why, code, fault)
         self.why = why
         self.code = code
+        self.fault = fault
 
     def __str__(self) -> str:
-        code = Version(self.code).name.lower() if self.why is Why.VERSION_NOT_SUPPORTED else self.code
-        return f"{self.why.name}: {_MESSAGES[self.why]}{f' ({code})' if code else ''}"
+        code = VersionKind(self.code).name.lower() if self.why is Why.VERSION_NOT_SUPPORTED else self.code
+        code_told, fault_told = f" ({code})" if code else "", f": {self.fault}" if self.fault else ""
+        return f"{self.why.name}: {self.why.message}{code_told}{fault_told}"
 
 
 # What happened, and what the caller can do about it.
@@ -157,6 +170,7 @@ _MESSAGES = {
     Why.NO_CLIENT: "no client sits at the place: sit down first",
     Why.NO_PLACE: "the place is closed: open a group",
     Why.NOT_ASKED: "no change of the place asks for a run: mutate, or end a pull",
+    Why.BAD_VERSION: "the library is of another version than what calls it: build both of one version",
     # tools/refusals: end
 }
 
@@ -240,6 +254,17 @@ class _What(enum.IntEnum):
     GIVE_UP = 24
 
 
+class Version(NamedTuple):
+    """A version of the library; with another major or minor number it is refused with `Why.BAD_VERSION`."""
+
+    major: int
+    minor: int
+    patch: int
+    proved: bool
+    """Whether the library was built from its proof. It says so itself."""
+
+
+_CALLED, _UNPROVED = 10000, 0x80000000
 _NONE, _YES, _ASKED = 1, 2, 3
 _RAN, _RAN_REFUSED, _RAN_UNKNOWN = 0, 1, 2
 _ANY, _AT, _AFTER = 0, 1, 2
@@ -280,9 +305,19 @@ def _library_file() -> Path:
     return inside if inside.exists() else built
 
 
+def _version_of(number: int) -> Version:
+    """The version of a number, as `giq_version` answers it."""
+    plain = number & ~_UNPROVED
+    return Version(plain // 10000, plain // 100 % 100, plain % 100, number & _UNPROVED == 0)
+
+
 @functools.cache
 def _library() -> ctypes.CDLL:
     library = ctypes.CDLL(os.environ.get("GIQAYMU_LIBRARY") or str(_library_file()))
+    library.giq_version.argtypes = []
+    library.giq_version.restype = ctypes.c_uint32
+    if _version_of(library.giq_version())[:2] != _version_of(_CALLED)[:2]:
+        raise Refusal(Why.BAD_VERSION)
     text = [ctypes.c_char_p, ctypes.c_size_t]
     place, u32, u64 = ctypes.POINTER(_Handle), ctypes.c_uint32, ctypes.c_uint64
     library.giq_open.argtypes = [*text, *text, *text, *text, u32, u32, place, ctypes.c_size_t]
@@ -291,7 +326,22 @@ def _library() -> ctypes.CDLL:
     library.giq_call.restype = ctypes.c_int32
     library.giq_close.argtypes = [place]
     library.giq_close.restype = None
+    library.giq_rules_fault.argtypes = [*text, *text]
+    library.giq_rules_fault.restype = ctypes.c_int64
     return library
+
+
+def version() -> Version:
+    """The version of the library that is loaded."""
+    return _version_of(_library().giq_version())
+
+
+def _rules_fault(rules: bytes) -> str:
+    """What is wrong with rules; nothing where memory was refused, too."""
+    length = _library().giq_rules_fault(rules, len(rules), b"", 0)
+    text = ctypes.create_string_buffer(max(length, 0))
+    told = _library().giq_rules_fault(rules, len(rules), text, len(text))
+    return text.raw.decode() if told == length else ""
 
 
 def _done(returned: int, code: int = 0) -> None:
@@ -303,6 +353,13 @@ def _done(returned: int, code: int = 0) -> None:
 def json_bytes(value: Json) -> bytes:
     """A value as compact JSON. ValueError where a number is none that JSON has."""
     return json.dumps(value, ensure_ascii=False, allow_nan=False, separators=(",", ":")).encode()
+
+
+def _bytes(name: str, given: bytes) -> bytes:
+    """The bytes; ctypes doesn't say which argument is none."""
+    if not isinstance(given, bytes):
+        raise TypeError(f"{name} is to be bytes, and is {type(given).__name__}")
+    return given
 
 
 def _within(name: str, number: int, most: int) -> int:
@@ -440,9 +497,9 @@ class Place:
         return self.mutate_json(name, json_bytes(args), timestamp)
 
     def mutate_json(self, name: str, args: bytes, timestamp: int | None = None) -> int:
-        """`mutate`, with arguments that are JSON already."""
+        """`mutate`, with arguments that are JSON already. TypeError where they are no bytes."""
         now = time.time_ns() // 1_000_000 if timestamp is None else _within("timestamp", timestamp, _MAX)
-        return self._change(_What.MUTATE, n=now, a=name.encode(), b=args).number
+        return self._change(_What.MUTATE, n=now, a=name.encode(), b=_bytes("args", args)).number
 
     @contextlib.contextmanager
     def look(self) -> Iterator[Draft]:
@@ -487,11 +544,12 @@ class Place:
     def end_pull(self, ticket: Ticket, response: bytes) -> Ended:
         """Ends a pull with the response's body; its ticket is given up, whatever comes.
 
-        Refused with `Why.NO_TICKET` where another client began the pull, or it has ended.
+        Refused with `Why.NO_TICKET` where another client began the pull, or it has ended. TypeError where the response
+        is no bytes: then the ticket stays.
         """
-        number = self._number_of(ticket)
+        number, body = self._number_of(ticket), _bytes("response", response)
         try:
-            return Ended(self._change(_What.END_PULL, number, a=response).returned)
+            return Ended(self._change(_What.END_PULL, number, a=body).returned)
         finally:
             with contextlib.suppress(Refusal):
                 self.forget(ticket)
@@ -589,7 +647,10 @@ class Group:
         given = [word for text in texts for word in (text, len(text))]
         handles = (_Handle * _within("places", places, 2**16))()
         own = 0 if mutators is None else 1
-        _done(_library().giq_open(*given, _within("slots", slots, 2**32 - 1), own, handles, places))
+        returned = _library().giq_open(*given, _within("slots", slots, 2**32 - 1), own, handles, places)
+        if returned == Why.BAD_RULES:
+            raise Refusal(Why.BAD_RULES, fault=_rules_fault(texts[-1]))
+        _done(returned)
         self.places = [Place(handle, mutators or {}) for handle in handles]
         """The places; the group is freed with the last of them."""
 

@@ -6,6 +6,7 @@ import json
 import logging
 import threading
 import time
+from collections import Counter
 from pathlib import Path
 from typing import TYPE_CHECKING, Any
 
@@ -23,6 +24,11 @@ if TYPE_CHECKING:
 Json = Any
 EVERY = 300.0
 """After how many seconds the folder is looked at again, where nothing is left to do."""
+FINAL = (400, 413, 422)
+"""Statuses by which a server judges the body of a request: what is recovered has the same body each time (RFC 9110).
+Others may be mended by new credentials, another server or time."""
+MOST_REFUSALS = 20
+"""After so many of these in a row a group is set aside: with the usual delays after nine minutes."""
 LASTS = 5.0
 """A stream of pokes that lasted for more seconds is opened again at once."""
 log = logging.getLogger("giqaymu")
@@ -30,6 +36,7 @@ log = logging.getLogger("giqaymu")
 
 class Recovery(threading.Thread):
     """Pushes what is pending in groups that no process holds, and pulls, until all of it is confirmed: then they go.
+    What the server refuses for ever is kept aside.
 
     It waits until the server can be reached: each group is locked while it is tried, and a process that opens then
     should have it. So it is tried soon after the loops had an answer, again and ever later where it failed, and each
@@ -41,6 +48,7 @@ class Recovery(threading.Thread):
         self._folder, self._syncer, self._announcer, self._options = folder, syncer, announcer, options
         self._wake = threading.Event()
         self._is_ended = False
+        self._refusals: Counter[str] = Counter()  # of each group: in a row, by a status that is final
         syncer.on_online = self._wake.set
 
     def end(self) -> None:
@@ -83,7 +91,10 @@ class Recovery(threading.Thread):
         """Whether its files are gone: all was confirmed, or it is kept aside."""
         state = left.state()
         if left.identity is not None and state.pending:
-            error = self._sent(left.identity, state)
+            try:
+                error = self._sent(left.identity, state)
+            except Answered as answered:
+                error = self._last_word(left.identity.group, answered)
             if error is not None:
                 self._announcer.set_aside(left.set_aside(error, state.pending.values()))
                 return True
@@ -96,6 +107,14 @@ class Recovery(threading.Thread):
         left.remove()
         return True
 
+    def _last_word(self, group: str, answered: Answered) -> str:
+        """Why the group can't be recovered, where the server has refused it often enough; else its answer is raised."""
+        self._refusals[group] = self._refusals[group] + 1 if answered.status in FINAL else 0
+        if self._refusals[group] < MOST_REFUSALS:
+            raise answered
+        del self._refusals[group]
+        return str(answered)
+
     def _sent(self, identity: Identity, state: State) -> str | None:
         """Pushes and pulls; what is confirmed is pending no more. The server's error, where it is one for ever."""
         head = {"clientGroupID": identity.group, "profileID": identity.profile, "schemaVersion": identity.schema}
@@ -105,7 +124,7 @@ class Recovery(threading.Thread):
             "pull": {"cookie": state.cookie, "pullVersion": 1},
         }
         for what, words in bodies.items():
-            body = self._syncer.post(what, json_bytes({**head, **words}))
+            body = self._syncer.post(what, json_bytes({**head, **words}), recovers=True)
             error, _ = error_in(body)
             if error in ("ClientStateNotFound", "VersionNotSupported"):
                 return error

@@ -254,28 +254,15 @@ class Replicache:
         on_set_aside: Callable[[SetAside], None] | None = None,
         on_error: Callable[[str, Exception], None] | None = None,
     ) -> None:
-        if durability not in ("fsync", "write"):
-            raise ValueError(f"durability is fsync or write, not {durability!r}")
-        if mutators is not None and rules is not None:
-            raise ValueError("a group has mutators or rules, not both")
-        needs_http = transport is None and ((push_url and not pusher) or (pull_url and not puller))
-        post, close = _http(request_options) if needs_http else (transport, lambda: None)
-        callbacks = Callbacks(
-            on_online_change, on_sync, on_update_needed, on_client_state_not_found, on_set_aside, on_error
-        )
-        group = {"mutators": mutators, "rules": rules, "slots": slots, "clients": clients}
-        syncing = {
-            "pusher": pusher or _poster(post, push_url),
-            "puller": puller or _poster(post, pull_url),
-            "auth": auth,
-            "get_auth": get_auth,
-            "push_delay": push_delay,
-            "pull_interval": pull_interval,
-        }
-        folder: tuple[Path, Durability] | None = None if store is None else (Path(store), durability)
+        group = {**_mutators(mutators, rules), "slots": slots, "clients": clients}
+        folder = _folder(store, durability)
+        posters, at_end = _posters(request_options, transport, push=(pusher, push_url), pull=(puller, pull_url))
+        syncing: dict[str, Any] = {**posters, "auth": auth, "get_auth": get_auth}
+        pace = {"push_delay": push_delay, "pull_interval": pull_interval}
+        told = on_online_change, on_sync, on_update_needed, on_client_state_not_found, on_set_aside, on_error
         identity = Identity(str(uuid.uuid4()), profile_id, schema_version)
-        shared = _Shared(identity, group, syncing, callbacks, request_options, folder, poke_url)
-        shared.at_end = close
+        shared = _Shared(identity, group, {**syncing, **pace}, Callbacks(*told), request_options, folder, poke_url)
+        shared.at_end = at_end
         self._sit(shared)
 
     def _sit(self, shared: _Shared) -> None:
@@ -386,12 +373,35 @@ class Replicache:
         self.close()
 
 
-def _http(options: RequestOptions) -> tuple[Transport, Callable[[], None]]:
-    """The layer's own transport, and what closes it. It is imported here: see the head of its module."""
-    from .http_transport import Http
+def _mutators(mutators: Mapping[str, Mutator] | None, rules: dict[str, Json] | None) -> dict[str, Any]:
+    """What a group's mutations run. ValueError where both are given."""
+    if mutators is not None and rules is not None:
+        raise ValueError("a group has mutators or rules, not both")
+    return {"mutators": mutators, "rules": rules}
 
-    http = Http(options)
-    return http, http.close
+
+def _folder(store: str | Path | None, durability: Durability) -> tuple[Path, Durability] | None:
+    """Where a group is kept, and how. ValueError where the durability is none."""
+    if durability not in ("fsync", "write"):
+        raise ValueError(f"durability is fsync or write, not {durability!r}")
+    return None if store is None else (Path(store), durability)
+
+
+def _posters(
+    options: RequestOptions,
+    transport: Transport | None,
+    *,
+    push: tuple[Poster | None, str],
+    pull: tuple[Poster | None, str],
+) -> tuple[dict[str, Poster | None], Callable[[], None]]:
+    """What sends pushes and pulls, each a function of the program's or a URL; and what ends the requests."""
+    close: Callable[[], None] = lambda: None
+    if transport is None and any(url and not poster for poster, url in (push, pull)):
+        from .http_transport import Http  # here: see the head of its module
+
+        transport = http = Http(options)
+        close = http.close
+    return {"pusher": push[0] or _poster(transport, push[1]), "puller": pull[0] or _poster(transport, pull[1])}, close
 
 
 def _poster(post: Transport | None, url: str) -> Poster | None:

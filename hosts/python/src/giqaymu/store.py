@@ -57,8 +57,8 @@ class Identity(NamedTuple):
 class SetAside:
     """Mutations that can't be sent any more, or a file that can't be read: what became of them.
 
-    `path` is the file in which they are kept, and that no process looks at. `why` is the server's error, or what is
-    wrong with the file. Making the mutations again under new IDs may do them twice: ask the user.
+    `path` is the file in which they are kept, and that no process looks at. `why` is the server's error or status,
+    or what is wrong with the file. Making the mutations again under new IDs may do them twice: ask the user.
     """
 
     path: Path

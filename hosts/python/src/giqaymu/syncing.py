@@ -19,7 +19,7 @@ from collections.abc import Callable, Iterator
 from typing import Any
 
 from .callbacks import Announcer, UpdateNeeded
-from .edge import Ended, Refusal, Version, Why, json_bytes
+from .edge import Ended, Refusal, VersionKind, Why, json_bytes
 from .groups import AGAIN, KeptGroup
 from .loops import Closed, Loop, RequestOptions
 from .transport import Answered, Offline, Reply
@@ -127,16 +127,20 @@ class Syncer:
         """Whether there is somewhere to push or to pull from."""
         return self._posters[what] is not None and not self._is_stopped
 
-    def post(self, what: str, body: bytes) -> bytes:
-        """The body of a response with the status 200, else `Offline`. A 401 asks for other credentials."""
+    def post(self, what: str, body: bytes, *, recovers: bool = False) -> bytes:
+        """The body of a response with the status 200, else `Offline`. A 401 asks for other credentials.
+
+        Another answer to what is recovered does not mean that this group is offline.
+        """
         poster = self._posters[what]
         assert poster is not None
         try:
             reply = self._authorized(poster, body)
             if reply.status != 200:
                 raise Answered(what, reply.status, reply.body)
-        except Offline:
-            self._set_online(False)
+        except Offline as lost:
+            if not recovers or not isinstance(lost, Answered):
+                self._set_online(False)
             raise
         except Exception as error:  # of a function of the program's own
             self._set_online(False)
@@ -229,8 +233,8 @@ class Syncer:
             self.not_found()
             return True
         if refusal.why is Why.VERSION_NOT_SUPPORTED:
-            version = Version(refusal.code)
-            self.needs_update(None if version is Version.UNKNOWN else version.name.lower())
+            kind = VersionKind(refusal.code)
+            self.needs_update(None if kind is VersionKind.UNKNOWN else kind.name.lower())
             return True
         if refusal.why not in AGAIN:
             self._announcer.error(what, refusal)
