@@ -13,7 +13,7 @@ from functools import cached_property
 from pathlib import Path
 
 # The head of a function; its indentation tells how deep it stands.
-HEAD = re.compile(r"^(\s*)(?:pub(?:\([a-z]+\))? )?(?:const )?(?:unsafe )?fn (\w+)")
+HEAD = re.compile(r'^(\s*)(?:pub(?:\([a-z]+\))? )?(?:const )?(?:unsafe )?(?:extern "\w+" )?fn (\w+)')
 CYCLE = re.compile(r"#\[cycle\((\w+)\)\]")
 # The file of a function's own proof, by the function's module and name.
 PROOF = re.compile(r"proofs/(?:(.+)/)?(\w+)/(?:Answers|Invariants|Proof)\.antt")

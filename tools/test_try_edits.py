@@ -10,6 +10,7 @@ import tempfile
 import unittest
 from pathlib import Path
 
+import edits
 import kit
 
 CRATE = """\
@@ -122,6 +123,10 @@ class TryEdits(unittest.TestCase):
         with_proof = f"{LESS}file: proofs/greater/Answers.antt\nold: one\nnew: another\n"
         _, said = self.tried("--dry", less=with_proof, one="old: handed_on(x)\nnew: handed_on(1)\n")
         self.assertEqual(said.splitlines(), ["toy, round 1: less, one"])
+
+    def test_a_function_that_c_calls_is_one(self):
+        text = 'fn first() {\n    1\n}\n\npub extern "C" fn second() {\n    2\n}\n'
+        self.assertEqual(edits.function_round(text, text.index("2"), "exports"), edits.Place("exports", "second"))
 
     def test_an_edit_that_does_not_compile_fails(self):
         status, said = self.tried(is_no_rust="old: if x < y\nnew: if x < z\n# refused: returns\n")
