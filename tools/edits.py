@@ -1,7 +1,7 @@
 """Must-fail edits: what each changes, and what a check says of the functions that it changes.
 
 An edit is a file with lines `file: PATH`, and pairs of lines `old: TEXT` and `new: TEXT`, as the kit reads them; each
-old text stands once in its file, or an earlier pair of the edit made it. A line `# refused: GOAL` says for which goal
+old text stands once in its file. A line `# refused: GOAL` says for which goal
 its own function has to be refused, and `# refused only: GOAL` that all else of this function has to be proved: such an
 edit may change the function's proof too.
 """
