@@ -1,10 +1,12 @@
-//! A store whose slots are never used again: the nodes of a group in a vector that only grows.
+//! A store whose slots are never used again: the nodes of a group in a table that only grows.
 //!
-//! A push may wait for another one, so what places nodes may wait; the vector is looked into without
-//! waiting. A node's slot number is the index of its push: the opening nodes have 0 and 1. Past the slot
-//! numbers of a `Ref` it is Full. There is nothing to claim, so `take_slot` answers slot 0, which means
-//! nothing, and what else is done with slots does nothing.
-ghost use Rattle.std.specs.Prelude.{◌≡◌, IfOk, IfErr, length};
+//! A node stands at the index of its stamp: its slot number is its stamp, and where the stamp is no slot number it is
+//! Full. A stamp has one content for good, so a node that stands at the index already is the one that was to be
+//! placed. What places nodes may wait for a thread that places the same node or makes the room for it; the table is
+//! looked into without waiting. There is nothing to claim, so `take_slot` answers slot 0, which means nothing, and
+//! what else is done with slots does nothing.
+ghost use Rattle.std.specs.Prelude.{◌≡◌, ◌<◌, IfOk, IfErr, length};
+ghost use Rattle.group_history.specs.Refs.{max_slots};
 ghost use Rattle.group_history.specs.declared.refs.Ref.{Ref as Reference};
 ghost use Rattle.group_history.specs.declared.refusals.Refusal.TheVariants.{NoMemory};
 ghost use Rattle.head_word.specs.Books.{opening};
@@ -15,8 +17,9 @@ use crate::opening::{first, placed_leaf, placed_snapshot};
 use crate::placed::Placed;
 use crate::shown::Shown;
 use crate::store::{Slots, Store};
+use boxcar::Keeps;
+use boxcar::table::Table;
 use boxcar::tag::{Names, Tag};
-use boxcar::{Keeps, Vec as Boxcar};
 use group_history::{MAX_SLOTS, Means, Node, Ref, Refusal};
 use head_word::{Head, Mark, Sight};
 use reader_claims::Kind;
@@ -24,14 +27,14 @@ use std::alloc::Global;
 use std::marker::Model;
 use std::sync::Wait;
 
-// Each node's mark is of the tag's book.
+// Each node's mark is of the tag's book, and the node stands at the index of its stamp.
 struct InBook;
 
 impl<M: Means> Keeps<Placed<M>> for InBook {
     ghost use Rattle.std.specs.Prelude.{◌≡◌};
     ghost use Rattle.chunk_slots.specs.Inside.Appended.{numbers};
 
-    ghost holds = { λ tag i placed. numbers placed.mark.book ≡ tag };
+    ghost holds = { λ tag i placed. (numbers placed.mark.book ≡ tag) × (placed.stamp ≡ i) };
 }
 
 struct BookOfMark;
@@ -42,12 +45,12 @@ impl<M: Means> Names<Mark<M>> for BookOfMark {
     ghost numbers = { λ mark. numbers mark.book };
 }
 
-/// The nodes of a group, by the number of the push that brought them. No slot is used again, so a group over it grows
-/// until memory or the 2^24 slots end; a push may wait for another one.
+/// The nodes of a group, by their stamps. No slot is used again, so a group over it grows until memory or
+/// the first 2^24 stamps end; what places a node may wait for another thread.
 #[derive(Drop)]
 pub struct Append<R, M: Means> {
     rt: R,
-    nodes: Boxcar<Placed<M>, Global, InBook>,
+    nodes: Table<Placed<M>, InBook, Global>,
     seen: Sight<M>,
 }
 
@@ -80,34 +83,47 @@ fn no_claims(alloc: Global, seats: u32) -> Result<Vec<NoClaims>, Refusal>
     Ok(all)
 }
 
-// Appends a node of the vector's book.
-fn push_one<R: Wait, M: Means>(
+// Puts a node of the table's book at the index of its stamp, unless it stands there. It goes round while another
+// thread is putting it there, or is making the room.
+fn put<R: Wait, M: Means>(
     rt: &R,
-    nodes: &Boxcar<Placed<M>, Global, InBook>,
+    nodes: &Table<Placed<M>, InBook, Global>,
     placed: Placed<M>,
 ) -> Result<(), Refusal>
     requires tag { numbers placed.mark.book ≡ nodes.now.tag }
+    requires stamp { placed.stamp < max_slots }
     ensures err { IfErr result (λ e. e ≡ NoMemory) }
 {
-    let Ok(_) = nodes.push(rt, placed) else {
-        return Err(Refusal::NoMemory);
-    };
-    Ok(())
+    let index = placed.stamp() as usize;
+    let mut placed = placed;
+    for _ in rt.forever() {
+        // Room is made first, since `set_placed` doesn't tell a refused growth from an index that is in use.
+        nodes.reserve_at(index)?;
+        match nodes.set_placed(rt, index, placed) {
+            Ok(_) => return Ok(()),
+            Err(back) => placed = back,
+        }
+        if nodes.get(index).is_some() {
+            return Ok(());
+        }
+        std::hint::spin_loop();
+    }
+    unreachable!()
 }
 
-// The opening's nodes are the first two.
-fn push_opening<R: Wait, M: Means>(
+// The opening's nodes have the first two stamps.
+fn put_opening<R: Wait, M: Means>(
     alloc: Global,
     rt: &R,
-    nodes: &Boxcar<Placed<M>, Global, InBook>,
+    nodes: &Table<Placed<M>, InBook, Global>,
     mark: &Mark<M>,
 ) -> Result<(), Refusal>
     requires tag { nodes.now.tag ≡ numbers mark.now.book }
     requires log { (at : Reference) × (mark.now.log ≡ opening at) }
     ensures err { IfErr result (λ e. e ≡ NoMemory) }
 {
-    push_one(rt, nodes, placed_leaf(alloc, mark)?)?;
-    push_one(rt, nodes, placed_snapshot(alloc, 0, mark)?)
+    put(rt, nodes, placed_leaf(alloc, mark)?)?;
+    put(rt, nodes, placed_snapshot(alloc, 0, mark)?)
 }
 
 impl<R, M: Means> Append<R, M> {
@@ -121,13 +137,13 @@ impl<R, M: Means> Append<R, M> {
         ensures stamp { IfOk result (λ shown. shown.stamp ≡ stamp) }
         ensures err { IfErr result (λ e. e ≡ Gone) }
     {
-        let Some(placed) = self.nodes.get(slot as usize) else {
-            return Err(StoreStop::Gone);
-        };
-        if placed.stamp() != stamp {
+        if slot as u64 != stamp {
             return Err(StoreStop::Gone);
         }
-        Ok(Shown::lent(placed))
+        match self.nodes.get(slot as usize) {
+            Some(placed) => Ok(Shown::lent(placed)),
+            None => Err(StoreStop::Gone),
+        }
     }
 }
 
@@ -139,8 +155,8 @@ impl<R: Wait + Drop, M: Means> Append<R, M> {
         ensures err { IfErr result (λ e. e ≡ NoMemory) }
     {
         let tag = Tag::of::<Mark<M>, BookOfMark>(mark);
-        let nodes = Boxcar::with_rule(alloc, tag)?;
-        push_opening(alloc, &rt, &nodes, mark)?;
+        let nodes = Table::new(alloc, tag)?;
+        put_opening(alloc, &rt, &nodes, mark)?;
         let seen = mark.sight();
         Ok(Append { rt, nodes, seen })
     }
@@ -213,14 +229,11 @@ impl<R: Wait + Sync + Drop, M: Means> Store<M> for Append<R, M> {
         node: Node<Ref>,
         _tries: u32,
     ) -> Result<u32, Refusal> {
-        let Ok(at) = self.nodes.push(&self.rt, Placed::new(stamp, node, mark)) else {
-            return Err(Refusal::NoMemory);
-        };
-        if (at as u64) < MAX_SLOTS {
-            Ok(at as u32)
-        } else {
-            Err(Refusal::Full)
+        if stamp >= MAX_SLOTS {
+            return Err(Refusal::Full);
         }
+        put(&self.rt, &self.nodes, Placed::new(stamp, node, mark))?;
+        Ok(stamp as u32)
     }
 
     fn take_slot(&self, _seat: &mut NoClaims, _kind: Kind) -> Option<u32>

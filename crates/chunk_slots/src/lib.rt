@@ -10,12 +10,12 @@
 //!
 //! `Arena` uses its slots again. Which slot is free says the claims table; the calls on slots and pins are its steps. A
 //! slot has 72 bytes: a word, and in place a stamp and the node. `place` is Busy where, as often as it tries, somebody
-//! reads or writes in the slot. `Append` never uses a slot again: a vector that only grows, whose slot number is the
-//! number of the push. A push may wait. `take_slot` answers slot 0, which means nothing, and the clauses on claims are
-//! empty (`reused` is false).
+//! reads or writes in the slot. `Append` never uses a slot again: a table that only grows, in which a node stands at
+//! the index of its stamp. It is Full where the stamp is no slot number, which its contract tells, and placing a node
+//! may wait. `take_slot` answers slot 0, which means nothing, and the clauses on claims are empty (`reused` is false).
 //!
-//! Only `open` takes memory, and `place` in a vector. Calls that always return stand in `Slots`, the other three in
-//! `Store`.
+//! Only `open` takes memory, and `place` in a table that grows. Calls that always return stand in `Slots`, the other
+//! three in `Store`.
 //!
 //! Decisions. Two traits, since a trait says nothing of waiting and a method of a block with the bound `R: Wait` counts
 //! as one that may wait. A store's seat is tied to it by an equation (`serves` of the store, `home` of the seat), which

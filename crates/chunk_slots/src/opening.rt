@@ -46,6 +46,7 @@ fn opening_snapshot(alloc: Global, leaf: u32) -> Result<Node<Ref>, Refusal>
 pub(crate) fn placed_leaf<M: Means>(alloc: Global, mark: &Mark<M>) -> Result<Placed<M>, Refusal>
     requires { (at : Reference) × (mark.now.log ≡ opening at) }
     ensures book { IfOk result (λ placed. placed.mark.book ≡ mark.now.book) }
+    ensures stamp { IfOk result (λ placed. placed.stamp ≡ 0) }
     ensures err { IfErr result (λ e. e ≡ NoMemory) }
 {
     let node = empty_leaf(alloc)?;
@@ -61,6 +62,7 @@ pub(crate) fn placed_snapshot<M: Means>(
     requires leaf { leaf < max_slots }
     requires opened { (at : Reference) × (mark.now.log ≡ opening at) }
     ensures book { IfOk result (λ placed. placed.mark.book ≡ mark.now.book) }
+    ensures stamp { IfOk result (λ placed. placed.stamp ≡ 1) }
     ensures err { IfErr result (λ e. e ≡ NoMemory) }
 {
     let node = opening_snapshot(alloc, leaf)?;

@@ -166,7 +166,7 @@ pub trait Store<M: Means>: Slots<M> {
         ensures seat { seat.new ≡ seat.old }
         ensures slot { IfOk result (λ at. (at < max_slots) × (Self.reused → at ≡ slot)) }
         ensures err { IfErr result (λ e. (Self.reused × (e ≡ refusal.Busy))
-            ⊎ ((Self.reused → ⊥) × ((e ≡ refusal.NoMemory) ⊎ (e ≡ refusal.Full)))) };
+            ⊎ ((Self.reused → ⊥) × ((e ≡ refusal.NoMemory) ⊎ ((e ≡ refusal.Full) × (max_slots ≤ stamp))))) };
 
     /// Takes a slot to place a node in. A reserved one is taken only where no ordinary one was free or
     /// could be given, but for those that other seats were quicker to take. `None` comes after a whole
