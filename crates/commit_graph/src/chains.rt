@@ -157,17 +157,19 @@ pub fn base_in(commit: &Commit<Ref>) -> Result<Base, AllocError>
 }
 
 /// What a closure tells of a placed commit, which is shown to it, and left again. Stops as the store does alone.
-pub fn look_at_commit<N: Nodes, R, F: Fn(&Commit<Ref>) -> R>(
+pub fn look_at_commit<N: Nodes, R, F: FnMut(&Commit<Ref>) -> R>(
     nodes: &mut N,
     at: Ref,
-    tell: F,
+    tell: &mut F,
 ) -> Result<R, Stop>
     requires known { IsSome (version_at (N.contents nodes.old) (stamp_of at)) }
     requires place { N.places nodes.old at }
-    requires callable { (commit : _) → LiesAt (N.contents nodes.old) (stamp_of at) commit.now → F.pre tell commit }
+    requires callable { (commit : _) → LiesAt (N.contents nodes.old) (stamp_of at) commit.now
+        → F.pre tell.old commit }
     ensures grown { Grows N.contents N.places nodes.old nodes.new }
     ensures told { IfOk result (λ told. (commit : _)
-        × IsShownAt (N.places nodes.new) (N.contents nodes.new) (stamp_of at) commit.now × F.post tell commit told) }
+        × IsShownAt (N.places nodes.new) (N.contents nodes.new) (stamp_of at) commit.now
+        × F.FnMut.steps tell.old (commit, tt) told tell.new) }
     ensures stopped { IfErr result N.stops }
 {
     let held = nodes.show_commit(at)?;

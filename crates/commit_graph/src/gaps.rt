@@ -94,7 +94,7 @@ pub fn gap_below<C: Chunks>(chunks: &mut C, root: Ref, limit: u64) -> Result<Gap
     let mut at = root;
     let mut low = 0;
     while at.stamp() > limit {
-        let tops = look_at(chunks, at, tops_in)?;
+        let tops = look_at(chunks, at, &mut tops_in)?;
         low = tops.second.max(low);
         let Some(top) = tops.top else {
             return Ok(Gap { low, high: limit });

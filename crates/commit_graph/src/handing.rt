@@ -13,7 +13,7 @@ ghost use Rattle.commit_graph.specs.Inside.Chains.{added_by, listed};
 ghost use Rattle.commit_graph.specs.Inside.Handing.{AddUp, IsAdded, added_in};
 
 use crate::chains::{basis_in, look_at_commit};
-use crate::nodes::{Nodes, ShowsCommit};
+use crate::nodes::Nodes;
 use group_history::{Commit, CommitChange, CommitKind, Mutation, Ref, Stop};
 use std::alloc::{AllocError, Global};
 
@@ -56,10 +56,7 @@ fn hand_one<N: Nodes, T: TakesMutations>(nodes: &mut N, at: Ref, taker: &mut T) 
         → IsAdded (N.contents nodes.old) (stamp_of at) o → OnOk result (T.has taker.new (xs ++ listed o)) }
     ensures stopped { IfErr result (λ stop. (stop ≡ NoMemory) ⊎ N.stops stop) }
 {
-    let held = nodes.show_commit(at)?;
-    let handed = hand_commit(held.commit(), taker);
-    nodes.leave_commit(held);
-    Ok(handed?)
+    Ok(look_at_commit(nodes, at, &mut |commit| hand_commit(commit, taker))??)
 }
 
 fn keep(chain: &mut Vec<Ref>, at: Ref) -> Result<(), AllocError>
@@ -80,7 +77,7 @@ fn chain_of<N: Nodes>(alloc: Global, nodes: &mut N, head: Ref) -> Result<Vec<Ref
 {
     let mut chain = Vec::new(alloc);
     let mut at = head;
-    while let Some(basis) = look_at_commit(nodes, at, basis_in)? {
+    while let Some(basis) = look_at_commit(nodes, at, &mut basis_in)? {
         keep(&mut chain, at)?;
         at = basis;
     }

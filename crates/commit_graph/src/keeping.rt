@@ -48,7 +48,7 @@ fn is_chunk_kept<C: Chunks>(chunks: &mut C, root: Ref, at: Ref) -> Result<bool, 
     ensures kept { IfOk result (λ kept. IsTrue kept ↔ Reaches (C.contents chunks.new) (stamp_of root) (stamp_of at)) }
     ensures stopped { IfErr result (λ stop. (stop ≡ NoMemory) ⊎ C.stops stop) }
 {
-    let Some(key) = look_at(chunks, at, first_key_in)?? else {
+    let Some(key) = look_at(chunks, at, &mut first_key_in)?? else {
         return Ok(at.stamp() == root.stamp());
     };
     let met = meets(chunks, root, &key, at.stamp())?;
@@ -89,7 +89,7 @@ pub fn base_root<N: Nodes>(nodes: &mut N, head: Ref) -> Result<Ref, Stop>
     let root = look_at_commit(
         nodes,
         snapshot,
-        |commit|
+        &mut |commit|
             ensures { result ≡ commit.now.root }
         { commit.root },
     )?;

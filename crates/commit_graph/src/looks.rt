@@ -1,8 +1,6 @@
 //! One look of a walk: a node is shown, and what it names joins the frontier.
-ghost use Rattle.std.specs.Prelude.{◌≡◌, ◌⊎◌, ◌∷◌, [], map, take, Some, OnOk, IfErr, IsSome, slice_get};
-ghost use Rattle.group_history.specs.Refs.{stamp_of};
+ghost use Rattle.std.specs.Prelude.{◌≡◌, ◌⊎◌, ◌∷◌, [], map, take, Some, OnOk, IfErr, slice_get};
 ghost use Rattle.group_history.specs.Naming.{children, commits_named, content_of};
-ghost use Rattle.group_history.specs.Spelling.{segment_at, version_at};
 ghost use Rattle.group_history.specs.declared.nodes.Node.{Node as Noded};
 ghost use Rattle.group_history.specs.declared.nodes.Node.TheVariants as node;
 ghost use Rattle.group_history.specs.declared.refs.Ref.{Ref as Reference};
@@ -11,11 +9,12 @@ ghost use Rattle.map_chunks.specs.Places.{Grows, AreAll};
 ghost use Rattle.commit_graph.specs.Inside.Reach.{Adds, IsSpelled, ref_in, stamp_in, found_in};
 ghost use Rattle.commit_graph.specs.declared.founds.Found.TheVariants as found;
 
+use crate::chains::look_at_commit;
 use crate::founds::Found;
 use crate::frontiers::Frontier;
-use crate::nodes::{Nodes, ShowsCommit};
+use crate::nodes::Nodes;
 use group_history::{Chunk, Commit, CommitKind, Ref, Stop};
-use map_chunks::ShowsChunk;
+use map_chunks::looks::look_at;
 use std::alloc::AllocError;
 
 fn add_chunks(frontier: &mut Frontier, roots: &[Ref]) -> Result<(), AllocError>
@@ -59,36 +58,6 @@ fn add_of_commit(frontier: &mut Frontier, commit: &Commit<Ref>) -> Result<(), Al
     add_named(frontier, &commit.kind)
 }
 
-fn look_at_chunk<N: Nodes>(nodes: &mut N, frontier: &mut Frontier, at: Ref) -> Result<(), Stop>
-    requires known { IsSome (segment_at (N.contents nodes.old) (stamp_of at)) }
-    requires place { N.places nodes.old at }
-    ensures grown { Grows N.contents N.places nodes.old nodes.new }
-    ensures added { OnOk result ((n : Noded Reference) × AreAll (N.places nodes.new) (children n)
-        × (slice_get (N.contents nodes.new) (stamp_of at) ≡ Some (content_of n))
-        × Adds frontier.old (found_in n) frontier.new) }
-    ensures stopped { IfErr result (λ stop. (stop ≡ NoMemory) ⊎ N.stops stop) }
-{
-    let held = nodes.show(at)?;
-    let added = add_of_chunk(frontier, held.chunk());
-    nodes.leave(held);
-    Ok(added?)
-}
-
-fn look_at_commit<N: Nodes>(nodes: &mut N, frontier: &mut Frontier, at: Ref) -> Result<(), Stop>
-    requires known { IsSome (version_at (N.contents nodes.old) (stamp_of at)) }
-    requires place { N.places nodes.old at }
-    ensures grown { Grows N.contents N.places nodes.old nodes.new }
-    ensures added { OnOk result ((n : Noded Reference) × AreAll (N.places nodes.new) (children n)
-        × (slice_get (N.contents nodes.new) (stamp_of at) ≡ Some (content_of n))
-        × Adds frontier.old (found_in n) frontier.new) }
-    ensures stopped { IfErr result (λ stop. (stop ≡ NoMemory) ⊎ N.stops stop) }
-{
-    let held = nodes.show_commit(at)?;
-    let added = add_of_commit(frontier, held.commit());
-    nodes.leave_commit(held);
-    Ok(added?)
-}
-
 /// Shows the node that was found; what it names joins the frontier.
 pub fn look<N: Nodes>(nodes: &mut N, frontier: &mut Frontier, at: Found) -> Result<(), Stop>
     requires found { IsSpelled (N.contents nodes.old) at }
@@ -100,7 +69,11 @@ pub fn look<N: Nodes>(nodes: &mut N, frontier: &mut Frontier, at: Found) -> Resu
     ensures stopped { IfErr result (λ stop. (stop ≡ NoMemory) ⊎ N.stops stop) }
 {
     match at {
-        Found::Chunk(at) => look_at_chunk(nodes, frontier, at),
-        Found::Commit(at) => look_at_commit(nodes, frontier, at),
+        Found::Chunk(at) => Ok(look_at(nodes, at, &mut |chunk| add_of_chunk(frontier, chunk))??),
+        Found::Commit(at) => Ok(look_at_commit(
+            nodes,
+            at,
+            &mut |commit| add_of_commit(frontier, commit),
+        )??),
     }
 }

@@ -54,7 +54,7 @@ pub fn meets<C: Chunks>(chunks: &mut C, root: Ref, key: &Text, stamp: u64) -> Re
         let child = look_at(
             chunks,
             at,
-            |chunk|
+            &mut |chunk|
                 ensures { result ≡ child_for key.entry.now chunk.now }
             { child_in(chunk, key) },
         )?;

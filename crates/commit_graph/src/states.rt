@@ -70,7 +70,7 @@ pub fn walk<N: Nodes>(alloc: Global, nodes: &mut N, head: Ref) -> Result<Vec<Mut
 {
     let mut pending = Vec::new(alloc);
     let mut at = head;
-    while let Some(link) = look_at_commit(nodes, at, link_in)?? {
+    while let Some(link) = look_at_commit(nodes, at, &mut link_in)?? {
         add(&mut pending, link.added)?;
         at = link.basis;
     }
@@ -112,7 +112,7 @@ pub fn top_of<N: Nodes>(nodes: &mut N, head: Ref) -> Result<Top, Stop>
     let top = look_at_commit(
         nodes,
         head,
-        |commit|
+        &mut |commit|
             ensures { result ≡ seen.top_of head commit.now }
         { top_in(commit, head) },
     )?;
@@ -144,7 +144,7 @@ pub fn base_of<N: Nodes>(nodes: &mut N, head: Ref) -> Result<Base, Stop>
     ensures stopped { IfErr result (λ stop. (stop ≡ NoMemory) ⊎ N.stops stop) }
 {
     let snapshot = snapshot_of(nodes, head)?;
-    let base = look_at_commit(nodes, snapshot, base_in)??;
+    let base = look_at_commit(nodes, snapshot, &mut base_in)??;
     Ok(base)
 }
 
@@ -160,7 +160,7 @@ pub fn base_at<N: Nodes>(nodes: &mut N, snapshot: Ref) -> Result<Base, Stop>
     ensures place { IfOk result (λ b. N.places nodes.new b.pulled) }
     ensures stopped { IfErr result (λ stop. (stop ≡ NoMemory) ⊎ N.stops stop) }
 {
-    let base = look_at_commit(nodes, snapshot, base_in)??;
+    let base = look_at_commit(nodes, snapshot, &mut base_in)??;
     Ok(base)
 }
 
@@ -209,7 +209,7 @@ pub fn cookie_of<N: Nodes>(nodes: &mut N, head: Ref) -> Result<Cookie, Stop>
     ensures stopped { IfErr result (λ stop. (stop ≡ NoMemory) ⊎ N.stops stop) }
 {
     let snapshot = snapshot_of(nodes, head)?;
-    let cookie = look_at_commit(nodes, snapshot, cookie_in)??;
+    let cookie = look_at_commit(nodes, snapshot, &mut cookie_in)??;
     Ok(cookie)
 }
 
@@ -262,7 +262,7 @@ pub fn last_id_since<N: Nodes>(
         let own = look_at_commit(
             nodes,
             at,
-            |commit|
+            &mut |commit|
                 ensures id { result.id ≡ own_id client.entry.now commit.now }
                 ensures basis { result.basis ≡ basis_of commit.now }
             { own_id_in(commit, client) },

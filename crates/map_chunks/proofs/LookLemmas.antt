@@ -62,10 +62,10 @@ module _ (places : Ref → Type 0) (p q : Contents) (k : ℕ) where
   strictly tree = let n = known (chunk_rows p k) tree in
       (subst IsSome (sym n.is) refl, subst (λ x. IsStrict (rows_or x)) (sym n.is) n.order)
 
-  pub hint_told : (key : Bytes) (told hint : Hint) → IsTree (chunk_rows p k) → IsPrefix p q
-      → Saw (λ c. IsHint c key told) → told ≡ hint
+  pub hint_told : {X : Type 0} (key : Bytes) (told hint : Hint) → IsTree (chunk_rows p k) → IsPrefix p q
+      → Saw (λ c. X × IsHint c key told) → told ≡ hint
       → Hints q key k (chunk_depth p k) (rows_or (chunk_rows p k)) hint × IsHintAt places hint
-  hint_told key told hint tree grown (c, shown, is) same =
+  hint_told key told hint tree grown (c, shown, (x, is)) same =
       let t = strictly tree in
       let s = spelled t.0 grown in
       let so = subst (IsHint c.now key) same is in
@@ -76,20 +76,20 @@ module _ (places : Ref → Type 0) (p q : Contents) (k : ℕ) where
         hint_at places c.now key hint shown.0 so,
       )
 
-  pub below_told : {E : Type 0} (key : Bytes) (told : Result Descent E) (at : Ref) → IsTree (chunk_rows p k)
-      → IsPrefix p q → Saw (λ c. IfOk told (IsStep c key)) → told ≡ Ok (Below at)
+  pub below_told : {E X : Type 0} (key : Bytes) (told : Result Descent E) (at : Ref) → IsTree (chunk_rows p k)
+      → IsPrefix p q → Saw (λ c. X × IfOk told (IsStep c key)) → told ≡ Ok (Below at)
       → Hints q key k (chunk_depth p k) (rows_or (chunk_rows p k)) (On at) × places at
-  below_told key told at tree grown (c, shown, is) same =
-      hint_told key (On at) (On at) tree grown (c, shown, by c.now (IfOk-at_ok (IsStep c.now key) same is)) refl
+  below_told key told at tree grown (c, shown, (x, is)) same =
+      hint_told key (On at) (On at) tree grown (c, shown, (x, by c.now (IfOk-at_ok (IsStep c.now key) same is))) refl
     where
       by : (c : Chunk Ref) → IsStep c key (Below at) → IsHint c key (On at)
       by (Leaf rows) i = i
       by (Inner kids) i = i
 
-  pub found_told : {E : Type 0} (key : Bytes) (told : Result Descent E) (v : Option Bytes) → IsTree (chunk_rows p k)
-      → IsPrefix p q → Saw (λ c. IfOk told (IsStep c key)) → told ≡ Ok (Found v)
+  pub found_told : {E X : Type 0} (key : Bytes) (told : Result Descent E) (v : Option Bytes) → IsTree (chunk_rows p k)
+      → IsPrefix p q → Saw (λ c. X × IfOk told (IsStep c key)) → told ≡ Ok (Found v)
       → v ≡ find (slice_cmp nat_cmp) key (rows_or (chunk_rows p k))
-  found_told key told v tree grown (c, shown, is) same =
+  found_told key told v tree grown (c, shown, (x, is)) same =
       let s = spelled (strictly tree).0 grown in
       by s c.now shown (IfOk-at_ok (IsStep c.now key) same is)
     where

@@ -1,23 +1,23 @@
 -- Nodes that are to be placed together.
-use Rattle.std.specs.Prelude.{◌≡◌, ℕ, suc, ◌<◌, ◌≤◌, ◌^◌, List, [], ◌∷◌, ◌++◌}
+use Rattle.std.specs.Prelude.{◌≡◌, ℕ, suc, ◌+◌, ◌<◌, ◌≤◌, ◌^◌, List, [], ◌∷◌, ◌++◌}
 use Rattle.std.specs.List.{Contains, flat_map}
 use Rattle.group_history.specs.declared.nodes.Node.{Node}
 use Rattle.group_history.specs.declared.refs.Ref.{Ref}
 use Rattle.group_history.specs.Naming.{children}
-use Rattle.group_history.specs.Refs.{stamp_of}
+use Rattle.group_history.specs.Refs.{stamp_of, stamps}
 
 -- the stamp of the first node, and the nodes in order
 pub record Drafted : Type 0 where
   pub first : ℕ
   pub nodes : List (Node Ref)
 
--- A draft has at most half as many nodes as there are stamps. So many would take 32 TiB and more.
+-- so many nodes any draft has at most, which would take 192 GiB
 abbrev pub longest : ℕ
-longest = 2 ^ 39
+longest = 2 ^ 32
 
--- so many stamps are drawn that a draft may reach the last one
+-- all stamps but so many are drawn
 abbrev pub IsLate : ℕ → Type 0
-IsLate first = longest ≤ first
+IsLate first = stamps ≤ first + longest
 
 -- each of these references has a stamp below n
 abbrev pub AreBelow : ℕ → List Ref → Type 0

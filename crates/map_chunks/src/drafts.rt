@@ -18,8 +18,8 @@ use std::marker::Model;
 /// So many nodes the draft of a usual mutation has at most.
 const USUAL: usize = 8;
 
-/// So many nodes any draft has at most: half as many as there are stamps. They would take 32 TiB.
-const LONGEST: u64 = STAMPS / 2;
+/// So many nodes any draft has at most. They would take 192 GiB, and no group has slots for them.
+const LONGEST: u64 = 1 << 32;
 
 /// Nodes in the order of their stamps, and the first stamp. Each stands behind its children.
 #[derive(Drop)]
@@ -69,7 +69,7 @@ impl Draft {
     }
 
     /// Appends a node, whose children have stamps below its own, and answers how it is named. Refused with
-    /// Stamps where its stamp would be `STAMPS`, which is never so where the first stamp is below half of that.
+    /// Stamps where its stamp would be `STAMPS`, which is never so where more than 2^32 stamps are left.
     pub fn push(&mut self, node: Node<Ref>) -> Result<Ref, Refusal>
         requires children { AreBelow (self.old.first + length self.old.nodes) (children node) }
         ensures stamp { IfOk result (λ at. (stamp_of at ≡ self.old.first + length self.old.nodes) × (slot_of at ≡ 0)) }

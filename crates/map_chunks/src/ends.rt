@@ -40,7 +40,7 @@ pub fn end_placed<C: Chunks>(chunks: &mut C, at: Ref) -> Result<Ref, Stop>
         → IfOk result (IsNoDeeper (C.contents chunks.new) d) }
     ensures stopped { IfErr result (λ s. (s ≡ NoMemory) ⊎ C.stops s) }
 {
-    match look_at(chunks, at, only_of)? {
+    match look_at(chunks, at, &mut only_of)? {
         None => return Ok(at),
         Some(child) => return end_placed(chunks, child),
     }

@@ -8,17 +8,18 @@ use crate::chunks::{Chunks, ShowsChunk};
 use group_history::{Chunk, Json, Ref, Stop, Text};
 
 /// What a closure tells of a placed chunk, which is shown to it, and left again. Stops as the store does alone.
-pub fn look_at<C: Chunks, R, F: Fn(&Chunk<Ref>) -> R>(
+pub fn look_at<C: Chunks, R, F: FnMut(&Chunk<Ref>) -> R>(
     chunks: &mut C,
     at: Ref,
-    tell: F,
+    tell: &mut F,
 ) -> Result<R, Stop>
     requires known { IsSome (segment_at (C.contents chunks.old) (stamp_of at)) }
     requires place { C.places chunks.old at }
-    requires callable { F.IsAlwaysCallable tell }
+    requires callable { F.IsAlwaysCallable tell.old }
     ensures grown { Grows C.contents C.places chunks.old chunks.new }
     ensures told { IfOk result (λ told. (chunk : _)
-        × IsShown (C.places chunks.new) (C.contents chunks.new) (stamp_of at) chunk.now × F.post tell chunk told) }
+        × IsShown (C.places chunks.new) (C.contents chunks.new) (stamp_of at) chunk.now
+        × F.FnMut.steps tell.old (chunk, tt) told tell.new) }
     ensures stopped { IfErr result C.stops }
 {
     let held = chunks.show(at)?;

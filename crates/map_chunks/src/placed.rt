@@ -61,7 +61,7 @@ fn get_for<C: Chunks>(chunks: &mut C, at: Ref, key: &SearchKey<'_>) -> Result<Op
     let step = look_at(
         chunks,
         at,
-        |chunk|
+        &mut |chunk|
             ensures { IfOk result (IsStep chunk.now key.entry.now) }
         { step_of(chunk, key) },
     )?;
@@ -90,7 +90,7 @@ pub fn depth_placed<C: Chunks>(chunks: &mut C, at: Ref) -> Result<u64, Stop>
     ensures bound { IfOk result (λ d. d ≤ stamp_of at + 1) }
     ensures stopped { IfErr result C.stops }
 {
-    match look_at(chunks, at, first_of)? {
+    match look_at(chunks, at, &mut first_of)? {
         None => Ok(1),
         Some(child) => {
             let below = depth_placed(chunks, child)?;
@@ -116,5 +116,5 @@ pub fn is_empty_placed<C: Chunks>(chunks: &mut C, at: Ref) -> Result<bool, Stop>
     ensures value { IfOk result (λ b. b ≡ (length (rows_or (chunk_rows (C.contents chunks.old) (stamp_of at))) == 0)) }
     ensures stopped { IfErr result C.stops }
 {
-    look_at(chunks, at, is_empty)
+    look_at(chunks, at, &mut is_empty)
 }

@@ -41,7 +41,7 @@ pub fn second_placed<C: Chunks>(chunks: &mut C, at: Ref) -> Result<Option<Text>,
     ensures key { IfOk result (λ key. key ≡ second_key (rows_or (chunk_rows (C.contents chunks.old) (stamp_of at)))) }
     ensures stopped { IfErr result (λ s. (s ≡ NoMemory) ⊎ C.stops s) }
 {
-    match look_at(chunks, at, step_of)?? {
+    match look_at(chunks, at, &mut step_of)?? {
         Second::Known(key) => Ok(key),
         Second::First(child, next) => {
             let key = second_placed(chunks, child)?;

@@ -56,7 +56,7 @@ fn seek_for<C: Chunks>(chunks: &mut C, at: Ref, key: &SearchKey<'_>) -> Result<S
     let hint = look_at(
         chunks,
         at,
-        |chunk|
+        &mut |chunk|
             ensures { IsHint chunk.now key.entry.now result }
         { hint_of(chunk, key) },
     )?;

@@ -21,7 +21,7 @@ loop-chunks-smaller g c =
     (arith, c.loop-chunks-test.true, c.stamp.ensures.stamp) in
     (meeting_step (m c.args.chunks.now) (m c.loop-chunks.chunks) (m c.look_at.new.chunks) c.args.key.now
     (stamp_of c.args.root) (stamp_of c.loop-chunks.at) c.args.stamp k.0.now c.in-Some.child c.loop-chunks.invariant.0
-    low c.look_at.ensures.grown.0 k.1.1 (sym k.2 ∙ c.in-Some.is)).0
+    low c.look_at.ensures.grown.0 k.1.1 (sym k.2.1 ∙ c.in-Some.is)).0
 
 pub loop-chunks-preserved : goal.loop-chunks-preserved
 loop-chunks-preserved g c =
@@ -31,9 +31,9 @@ loop-chunks-preserved g c =
       (meeting_step (m c.args.chunks.now) (m c.loop-chunks.chunks) (m c.look_at.new.chunks) c.args.key.now
           (stamp_of c.args.root) (stamp_of c.loop-chunks.at) c.args.stamp k.0.now c.in-Some.child
           c.loop-chunks.invariant.0
-          low c.look_at.ensures.grown.0 k.1.1 (sym k.2 ∙ c.in-Some.is)).1,
+          low c.look_at.ensures.grown.0 k.1.1 (sym k.2.1 ∙ c.in-Some.is)).1,
       subst (IfAt (g.C.Chunks.places c.look_at.new.chunks)) c.in-Some.is
-          (child_may (g.C.Chunks.places c.look_at.new.chunks) c.args.key.now k.0.now c.in_ok-child.child k.1.0 k.2),
+          (child_may (g.C.Chunks.places c.look_at.new.chunks) c.args.key.now k.0.now c.in_ok-child.child k.1.0 k.2.1),
       grows_on g.C.Chunks.contents g.C.Chunks.places c.args.chunks.now c.loop-chunks.chunks c.look_at.new.chunks
           c.loop-chunks.invariant.2 c.look_at.ensures.grown,
     )
@@ -45,7 +45,7 @@ returns-in_default-clause-met g c =
     (arith, c.loop-chunks-test.true, c.stamp.ensures.stamp) in
     let stops = meeting_stops (m c.args.chunks.now) (m c.loop-chunks.chunks) (m c.look_at.new.chunks) c.args.key.now
     (stamp_of c.args.root) (stamp_of c.loop-chunks.at) c.args.stamp k.0.now c.loop-chunks.invariant.0 low
-    c.look_at.ensures.grown.0 k.1.1 (sym k.2 ∙ none_from c.in_ok-child.child c.in_default.not-Some) in
+    c.look_at.ensures.grown.0 k.1.1 (sym k.2.1 ∙ none_from c.in_ok-child.child c.in_default.not-Some) in
     (λ t. absurd (cc t), λ r. absurd (stops r))
 
 pub returns-clause-met : goal.returns-clause-met

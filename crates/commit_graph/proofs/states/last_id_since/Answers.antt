@@ -38,7 +38,7 @@ returns-then-own-gt0-clause-id g c v h =
     (m c.look_at_commit.new.nodes) c.args.client.now last c.in-Some.at k.0.now met c.look_at_commit.ensures.grown.0
     k.1.1 in
     let same : i.0 ≡ v = (let e : Some i.0 ≡ Some v = sym i.1 ∙ h in cc e) in
-    k.2.0 ∙ (s.1 (subst (λ (n : ℕ). 0 < n) k.2.0 c.if-own-gt0.true) ∙ ap
+    k.2.1.0 ∙ (s.1 (subst (λ (n : ℕ). 0 < n) k.2.1.0 c.if-own-gt0.true) ∙ ap
     (λ (w : Version). last_id w.state c.args.client.now) same)
 
 pub loop-next-smaller : goal.loop-next-smaller
@@ -50,7 +50,7 @@ loop-next-smaller g c =
     (m c.look_at_commit.new.nodes) c.args.client.now last c.in-Some.at k.0.now met c.look_at_commit.ensures.grown.0
     k.1.1 in
     subst (λ (o : Option Ref). ahead c.in_ok-own.own.basis < ahead o) (sym c.in-Some.is)
-    (subst (λ (o : Option Ref). ahead o < suc (stamp_of c.in-Some.at)) (sym k.2.1) s.0)
+    (subst (λ (o : Option Ref). ahead o < suc (stamp_of c.in-Some.at)) (sym k.2.1.1) s.0)
 
 pub loop-next-preserved : goal.loop-next-preserved
 loop-next-preserved g c =
@@ -60,15 +60,15 @@ loop-next-preserved g c =
     let s = search_step (m c.loop-next.nodes)
     (m c.look_at_commit.new.nodes) c.args.client.now last c.in-Some.at k.0.now met c.look_at_commit.ensures.grown.0
     k.1.1 in
-    let none = sym k.2.0 ∙ omega (arith, c.if-own-gt0.false) in
+    let none = sym k.2.1.0 ∙ omega (arith, c.if-own-gt0.false) in
     let may = g.N.Chunks.places c.look_at_commit.new.nodes in (
       i.0,
       i.1,
-      subst (λ (o : Option Ref). IsSearch (m c.look_at_commit.new.nodes) c.args.client.now last o) (sym k.2.1)
+      subst (λ (o : Option Ref). IsSearch (m c.look_at_commit.new.nodes) c.args.client.now last o) (sym k.2.1.1)
           (s.2 none),
       grows_on m g.N.Chunks.places c.args.nodes.now c.loop-next.nodes c.look_at_commit.new.nodes i.3
           c.look_at_commit.ensures.grown,
-      subst (IfAt may) (sym k.2.1)
+      subst (IfAt may) (sym k.2.1.1)
           (basis_may may (m c.look_at_commit.new.nodes) (stamp_of c.in-Some.at) k.0.now k.1),
     )
 
