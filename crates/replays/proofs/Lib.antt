@@ -4,3 +4,4 @@ pub mod ReplayLemmas
 pub mod RunLemmas
 pub mod BelowLemmas
 pub mod NeededLemmas
+pub mod UndoLemmas

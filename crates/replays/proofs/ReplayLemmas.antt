@@ -52,10 +52,3 @@ version_last means s xs before x r is left =
     } in
     ap (λ (w : List Mutation). shape w r) all ∙ ap (shape (s.pending ++ xs))
     (left ∙ sym (replayed-append means s.pulled s.pending xs))
-
--- the state after all of the mutations, by those before and behind a place
-pub with_halves : (s : State) (xs front back : List Mutation) → xs ≡ front ++ back
-    → with_more (with_more s front) back ≡ with_more s xs
-with_halves s xs front back is =
-    ap (λ (w : List Mutation). state s.pulled s.cookie s.confirmed w s.closed)
-    (append_assoc s.pending front back ∙ ap (λ w. s.pending ++ w) (sym is))

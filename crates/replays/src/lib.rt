@@ -7,10 +7,10 @@
 //!
 //! A rebase runs what stays pending on one tree, and its last commit alone has that map. Queries read at heads, and no
 //! commit before it is ever one: these have the pulled map's root. In a map of one leaf a pull that leaves k mutations
-//! takes 3 + k slots so, where a map for each commit takes 2 + 2 k. What a refusing mutator wrote would stay in that
-//! tree, and a tree is no cheap copy: so then the halves are replayed one after the other, down to one mutation on a
-//! tree of its own. With one refusal among k there are up to log2 k maps (rounded up), and each mutation is run once at
-//! each halving at most, and once alone. A tree that is a cheap copy would change this.
+//! takes 3 + k slots so, where a map for each commit takes 2 + 2 k. What a mutator that isn't done wrote is taken back,
+//! by notes of what was there (`undoing.rt`), so there is one map whatever refuses. Notes cost, and a mutator seldom
+//! refuses: none are taken at first, and where one isn't done all are run once more, with notes. So each mutation is
+//! run twice at most.
 //!
 //! Nothing is drafted in vain: each node is a child of a later one, and the last one is the newest commit
 //! (`AddsNeeded`).
@@ -28,6 +28,7 @@ mod patches;
 mod pulls;
 mod runs;
 mod tips;
+mod undoing;
 
 pub use locals::{draft_mutation, tree_if_done, tree_or_root};
 pub use looks::{Look, base_at, look_at, pending_at};

@@ -18,7 +18,7 @@ ghost use Rattle.replays.specs.Pending.{with_more};
 ghost use Rattle.replays.specs.Inside.Running.{HasRun};
 ghost use Rattle.replays.specs.Refusing.{RefusesFor, StopsAs};
 
-use crate::runs::{Run, Setting, run_on};
+use crate::runs::{Run, Setting, replay_on, run_on};
 use crate::tips::{Tip, add_local, add_over};
 use group_history::{CommitChange, Mutation, Mutators, Ran, Ref, Refusal};
 use map_tree::{Chunks, Draft, Tree};
@@ -82,34 +82,6 @@ pub fn tree_or_root(run: Run, root: Ref) -> Tree
     }
 }
 
-// One more mutation. Where its mutator isn't done, its commit has the map of the commit before it.
-fn replay_one<C: Chunks + Copy, K: NamesContents, M: Mutators>(
-    setting: &Setting<'_, C, M>,
-    draft: &mut Draft,
-    tip: Tip,
-    mutation: &Mutation,
-) -> Result<Tip, Refusal>
-    requires known { C.contents setting.now.chunks ≡ K.known }
-    requires places { (at : Reference) → C.places setting.now.chunks at }
-    requires behind { draft.old.first ≡ length K.known }
-    requires tip { (s : State) × IsTip M.means (with_nodes K.known draft.old.nodes) tip s }
-    ensures tip { (s : State) → IsTip M.means (with_nodes K.known draft.old.nodes) tip s → s.closed ≡ false
-        → IfOk result (λ after. IsTip M.means (with_nodes K.known draft.new.nodes) after
-        (after_mutate s mutation.now)) }
-    ensures needed { IfOk result (λ after. AddsNeeded (tip.commit ∷ []) (after.commit ∷ []) draft.old draft.new) }
-    ensures some { IfOk result (λ _. 0 < length draft.new.nodes) }
-    ensures first { draft.new.first ≡ draft.old.first }
-    ensures new { IfOk result (λ tip. draft.old.first ≤ stamp_of tip.commit) }
-    ensures err { IfErr result (λ e. (e ≡ NoMemory) ⊎ (e ≡ Stamps) ⊎ StopsAs C.stops e) }
-    ensures late { IfErr result (λ e. e ≡ Stamps → IsLate draft.old.first) }
-{
-    let copy = mutation.clone()?;
-    let run = run_on::<C, K, M>(setting, draft, Tree::at(tip.root), mutation)?;
-    let tree = tree_or_root(run, tip.root);
-    let after = add_local(setting.alloc, draft, tree, tip, copy)?;
-    Ok(after)
-}
-
 // The map that the mutations leave, run in order on the map of a root; none where a mutator of them isn't done.
 fn run_all<C: Chunks + Copy, K: NamesContents, M: Mutators>(
     setting: &Setting<'_, C, M>,
@@ -135,6 +107,52 @@ fn run_all<C: Chunks + Copy, K: NamesContents, M: Mutators>(
         tree = left;
     }
     Ok(Some(tree))
+}
+
+// The map that the mutations leave, run in order on the map of a root. What one that isn't done wrote is undone.
+fn run_undoing<C: Chunks + Copy, K: NamesContents, M: Mutators>(
+    setting: &Setting<'_, C, M>,
+    draft: &Draft,
+    root: Ref,
+    pending: &[Mutation],
+) -> Result<Tree, Refusal>
+    requires known { C.contents setting.now.chunks ≡ K.known }
+    requires places { (at : Reference) → C.places setting.now.chunks at }
+    requires behind { draft.now.first ≡ length K.known }
+    requires map { (m : Entries) × (map_at (with_nodes K.known draft.now.nodes) (stamp_of root) ≡ Some m) }
+    ensures left { (m : Entries) → map_at (with_nodes K.known draft.now.nodes) (stamp_of root) ≡ Some m
+        → IfOk result (λ tree. tree_map (with_nodes K.known draft.now.nodes) tree
+        ≡ Some (map_after M.means m pending.now)) }
+    ensures err { IfErr result (λ e. (e ≡ NoMemory) ⊎ StopsAs C.stops e) }
+{
+    let mut tree = Tree::at(root);
+    for mutation in pending {
+        tree = replay_on::<C, K, M>(setting, draft, tree, mutation)?;
+    }
+    Ok(tree)
+}
+
+// The map that the mutations leave, run in order on the map of a root. A note costs half as much as a run of a small
+// mutator: none is taken at first, and where one isn't done all are run once more, with notes.
+fn run_pending<C: Chunks + Copy, K: NamesContents, M: Mutators>(
+    setting: &Setting<'_, C, M>,
+    draft: &Draft,
+    root: Ref,
+    pending: &[Mutation],
+) -> Result<Tree, Refusal>
+    requires known { C.contents setting.now.chunks ≡ K.known }
+    requires places { (at : Reference) → C.places setting.now.chunks at }
+    requires behind { draft.now.first ≡ length K.known }
+    requires map { (m : Entries) × (map_at (with_nodes K.known draft.now.nodes) (stamp_of root) ≡ Some m) }
+    ensures left { (m : Entries) → map_at (with_nodes K.known draft.now.nodes) (stamp_of root) ≡ Some m
+        → IfOk result (λ tree. tree_map (with_nodes K.known draft.now.nodes) tree
+        ≡ Some (map_after M.means m pending.now)) }
+    ensures err { IfErr result (λ e. (e ≡ NoMemory) ⊎ StopsAs C.stops e) }
+{
+    match run_all::<C, K, M>(setting, draft, root, pending)? {
+        Some(tree) => Ok(tree),
+        None => run_undoing::<C, K, M>(setting, draft, root, pending),
+    }
 }
 
 // A commit for each of the mutations, in order, all with the map of the basis: no head is at any of them.
@@ -191,42 +209,9 @@ fn add_all<K: NamesContents>(
     add_over(draft, tip, root, CommitChange::Local(mutation))
 }
 
-// One mutation on a tree of its own, and of more the halves, one after the other.
-#[cycle(replaying)]
-fn replay_parts<C: Chunks + Copy, K: NamesContents, M: Mutators>(
-    setting: &Setting<'_, C, M>,
-    draft: &mut Draft,
-    basis: Tip,
-    pending: &[Mutation],
-) -> Result<Tip, Refusal>
-    requires known { C.contents setting.now.chunks ≡ K.known }
-    requires places { (at : Reference) → C.places setting.now.chunks at }
-    requires behind { draft.old.first ≡ length K.known }
-    requires tip { (s : State) × IsTip M.means (with_nodes K.known draft.old.nodes) basis s × (s.closed ≡ false) }
-    requires one { 0 < length pending.now }
-    ensures tip { (s : State) → IsTip M.means (with_nodes K.known draft.old.nodes) basis s → s.closed ≡ false
-        → IfOk result (λ after. IsTip M.means (with_nodes K.known draft.new.nodes) after (with_more s pending.now)) }
-    ensures needed { IfOk result (λ tip. AddsNeeded (basis.commit ∷ []) (tip.commit ∷ []) draft.old draft.new) }
-    ensures some { 0 < length draft.old.nodes → OnOk result (0 < length draft.new.nodes) }
-    ensures first { draft.new.first ≡ draft.old.first }
-    ensures new { draft.old.first ≤ stamp_of basis.commit
-        → IfOk result (λ tip. draft.old.first ≤ stamp_of tip.commit) }
-    ensures err { IfErr result (λ e. (e ≡ NoMemory) ⊎ (e ≡ Stamps) ⊎ StopsAs C.stops e) }
-    ensures late { IfErr result (λ e. e ≡ Stamps → IsLate draft.old.first) }
-{
-    if let [mutation] = pending {
-        return replay_one::<C, K, M>(setting, draft, basis, mutation);
-    }
-    let (front, back) = pending.split_at(pending.len() / 2);
-    let middle = replay::<C, K, M>(setting, draft, basis, front)?;
-    replay::<C, K, M>(setting, draft, middle, back)
-}
-
-/// Drafts a commit for each of the mutations, in order. They are run on one tree, and the last commit alone has its
-/// map: queries read at heads, and no other of these commits is one. What a mutator that isn't done wrote would stay
-/// in that tree. So where one is among them, the halves are replayed one after the other in this way, down to one
-/// mutation on a tree of its own.
-#[cycle(replaying)]
+/// Drafts a commit for each of the mutations, in order. They are run on one tree, from which what a mutator that isn't
+/// done wrote is taken back, and the last commit alone has its map: queries read at heads, and no other of these
+/// commits is one.
 pub fn replay<C: Chunks + Copy, K: NamesContents, M: Mutators>(
     setting: &Setting<'_, C, M>,
     draft: &mut Draft,
@@ -250,9 +235,7 @@ pub fn replay<C: Chunks + Copy, K: NamesContents, M: Mutators>(
     let Some((last, before)) = pending.split_last() else {
         return Ok(basis);
     };
-    if let Some(tree) = run_all::<C, K, M>(setting, draft, basis.root, pending)? {
-        let root = tree.freeze(setting.alloc, draft)?;
-        return add_all::<K>(draft, basis, before, last, root);
-    }
-    replay_parts::<C, K, M>(setting, draft, basis, pending)
+    let tree = run_pending::<C, K, M>(setting, draft, basis.root, pending)?;
+    let root = tree.freeze(setting.alloc, draft)?;
+    add_all::<K>(draft, basis, before, last, root)
 }

@@ -6,12 +6,14 @@ ghost use Rattle.group_history.specs.declared.refs.Ref.{Ref as Reference};
 ghost use Rattle.group_history.specs.declared.refusals.Refusal.TheVariants.{NoMemory};
 ghost use Rattle.group_history.specs.Map.{Entries};
 ghost use Rattle.group_history.specs.Meaning.{meaning_of};
+ghost use Rattle.group_history.specs.State.{replayed_once};
 ghost use Rattle.map_chunks.specs.Places.{AreAll, with_nodes};
 ghost use Rattle.map_tree.specs.Trees.{tree_map, tree_places};
 ghost use Rattle.transactions.specs.Maps.{shown_map};
 ghost use Rattle.replays.specs.Inside.Running.{HasRun};
 ghost use Rattle.replays.specs.Refusing.{StopsAs};
 
+use crate::undoing::{NamesMap, Undoing};
 use group_history::{Mutation, Mutators, Ran, Refusal, Stop, WriteView};
 use map_tree::{Chunks, Draft, Tree};
 use std::alloc::Global;
@@ -92,4 +94,52 @@ pub fn run_on<'a, C: Chunks + Copy, K: NamesContents, M: Mutators>(
 {
     let staged = Staged::<'a, C, K>::new(setting.chunks, draft);
     run_known::<Staged<'a, C, K>, Brand, M>(setting.alloc, staged, tree, setting.mutators, mutation)
+}
+
+// Runs a mutation's mutator on a tree. What one that isn't done wrote is undone.
+fn replay_known<C: Chunks + Drop, K: NamesContents, S: NamesMap, M: Mutators>(
+    alloc: Global,
+    chunks: C,
+    tree: Tree,
+    mutators: &M,
+    mutation: &Mutation,
+) -> Result<Tree, Refusal>
+    requires known { C.contents chunks ≡ K.known }
+    requires map { tree_map K.known tree ≡ Some S.start }
+    requires places { AreAll (C.places chunks) (tree_places tree) }
+    ensures left { IfOk result (λ left. tree_map K.known left ≡ Some (replayed_once M.means S.start mutation.now)) }
+    ensures err { IfErr result (λ e. (e ≡ NoMemory) ⊎ StopsAs C.stops e) }
+{
+    let view = WriteTx::new(alloc, Fixed::<C, K>::new(chunks), tree);
+    let mut view = Undoing::<WriteTx<Fixed<C, K>>, S>::new(alloc, view);
+    match run_over(alloc, mutators, mutation, &mut view)? {
+        Ran::Done => Ok(tree_of(view.into_view())),
+        Ran::Unknown | Ran::Refused(_) => Ok(tree_of(view.undo()?)),
+    }
+}
+
+/// Replays a mutation on a tree, for the mutation's reason: where its mutator isn't done, the map is as it was.
+pub(crate) fn replay_on<'a, C: Chunks + Copy, K: NamesContents, M: Mutators>(
+    setting: &Setting<'_, C, M>,
+    draft: &'a Draft,
+    tree: Tree,
+    mutation: &Mutation,
+) -> Result<Tree, Refusal>
+    requires known { C.contents setting.now.chunks ≡ K.known }
+    requires places { (at : Reference) → C.places setting.now.chunks at }
+    requires behind { draft.now.first ≡ length K.known }
+    requires map { IsSome (tree_map (with_nodes K.known draft.now.nodes) tree) }
+    ensures left { (m : Entries) → tree_map (with_nodes K.known draft.now.nodes) tree ≡ Some m
+        → IfOk result (λ left. tree_map (with_nodes K.known draft.now.nodes) left
+        ≡ Some (replayed_once M.means m mutation.now)) }
+    ensures err { IfErr result (λ e. (e ≡ NoMemory) ⊎ StopsAs C.stops e) }
+{
+    let staged = Staged::<'a, C, K>::new(setting.chunks, draft);
+    replay_known::<Staged<'a, C, K>, Brand, Brand, M>(
+        setting.alloc,
+        staged,
+        tree,
+        setting.mutators,
+        mutation,
+    )
 }

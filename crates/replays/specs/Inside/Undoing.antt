@@ -1,0 +1,19 @@
+-- What keys had before they were written, and the map with all of it put back.
+use Rattle.std.specs.Prelude.{List, [], ◌∷◌, Option, Some, None}
+use Rattle.std.specs.Coded.{Coded, coded_list, coded_ℕ}
+use Rattle.std.specs.FinMap as finite
+use Rattle.group_history.specs.Map.{Bytes, Entries}
+
+-- two maps can be told apart, so a type may keep that they are equal
+pub entries_coded : Coded Entries
+entries_coded = finite.code (coded_list coded_ℕ) (coded_list coded_ℕ)
+
+-- the map with this at the key; none: without the key
+abbrev pub with_there : Entries → Bytes → Option Bytes → Entries
+with_there m key None = finite.remove m key
+with_there m key (Some value) = finite.insert m key value
+
+-- the map with all that was noted put back, the newest note, which is the last, first
+abbrev pub undone : List (Bytes × Option Bytes) → Entries → Entries
+undone [] m = m
+undone (note ∷ newer) m = with_there (undone newer m) note.0 note.1
