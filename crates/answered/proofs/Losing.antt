@@ -66,6 +66,22 @@ nothing_more : {A : Type 0} (xs ys : List A) → xs ++ ys ≡ xs → ys ≡ []
 nothing_more xs [] h = refl
 nothing_more xs (y ∷ ys) h = absurd (omega (arith, ap length h, length-append xs (y ∷ ys)))
 
+-- of a longer beginning of a book others have added no less
+pub others_grow : (old new : Known) → IsPrefix old.log new.log → new.seat ≡ old.seat → others old ≤ others new
+others_grow old new pre seat =
+    let ys = pre.0 in
+    let all : own new ≡ own_of old.seat old.log ++ own_of old.seat ys = ap (λ s. own_of s new.log) seat
+    ∙ (ap (own_of old.seat) (sym pre.1) ∙ own_more old.seat old.log ys) in
+    omega (
+      arith,
+      length-append old.log ys,
+      length-append (own_of old.seat old.log) (own_of old.seat ys),
+      ap length pre.1,
+      ap length all,
+      own_short old.seat old.log,
+      own_short old.seat ys,
+    )
+
 -- where the seat made no move and the head is elsewhere, another seat added an entry
 pub lost_to_others : (old new : Known) (base : Ref) → IsPrefix old.log new.log → new.seat ≡ old.seat
     → own_moves new ≡ own_moves old → base ≡ last_move old.log → last_move new.log ≢ base → others old < others new

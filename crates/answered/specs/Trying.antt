@@ -1,5 +1,5 @@
 -- One try of a call that makes a change: what is proposed at the head, and how its publishing ends.
-use Rattle.std.specs.Prelude.{◌≡◌, ◌≢◌, ◌⊎◌, List, [], ◌∷◌, ◌++◌, Option, Some, None, Result, Err}
+use Rattle.std.specs.Prelude.{ℕ, ◌≡◌, ◌≢◌, ◌⊎◌, List, [], ◌∷◌, ◌++◌, Option, Some, None, Result, Err}
 use mathlib.Core.List.{IsPrefix}
 use Rattle.group_history.specs.declared.changes.Change.{Change}
 use Rattle.group_history.specs.declared.refs.Ref.{Ref}
@@ -30,6 +30,11 @@ IsWon means old new change s = (log : List Entry) × IsPoint means old new (Some
 abbrev pub IsMove : Known → Known → Ref → Ref → Change → Type 0
 IsMove old new base to change = (log : List Entry) × IsPrefix old.log log × (last_move log ≡ base)
     × (new.log ≡ log ++ moved old.seat to (Some change) ∷ [])
+
+-- the entries that a publishing adds to the book by this seat: the move, where the exchange was won
+abbrev pub added : Option ℕ → Ref → Change → Published → List Entry
+added by to change published.Won = moved by to (Some change) ∷ []
+added by to change published.Lost = []
 
 -- The exchange was lost: the seat did not move the head, which is not at the base any more.
 abbrev pub IsLost : Known → Known → Ref → Type 0

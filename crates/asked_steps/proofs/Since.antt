@@ -17,24 +17,25 @@ use Rattle.group_history.specs.State.{State}
 use Rattle.group_history.proofs.Lists.{prefix_trans}
 use Rattle.head_word.specs.declared.entry.Entry.{Entry}
 use Rattle.head_word.specs.Books.{drawn, last_move, next_stamp, record_of}
-use Rattle.head_word.specs.Marks.{Known, others, own_of}
+use Rattle.head_word.specs.Marks.{Known, others, own, own_of}
 use Rattle.reader_claims.specs.declared.words.Pin.TheVariants.{Absent}
 use Rattle.reader_claims.specs.Views.{with_pin}
 use Rattle.chunk_slots.specs.Seats.{IsIdle}
-use Rattle.commit_graph.specs.Seats.{HasLooked, IsSameSeat, Seated}
+use Rattle.commit_graph.specs.Seats.{HasLooked, IsCalm, IsSameSeat, Seated}
 use Rattle.commit_graph.proofs.Seating.{seat-trans}
 use Rattle.answered.specs.Answered.{IsLinearized, is_move, is_resource_refusal, own_moves}
 use Rattle.answered.specs.Trying.{IsBase}
-use Rattle.answered.proofs.Losing.{lost_to_others, point_since}
+use Rattle.answered.proofs.Losing.{lost_to_others, others_grow, point_since}
 use Rattle.group_steps.specs.Arriving.{IsArrived, when_seen}
 use Rattle.group_steps.specs.Causes.{HasCauseAt}
-use Rattle.group_steps.specs.Changing.{AnswersTry, EndsTry, change_tried, is_made}
-use Rattle.group_steps.specs.Leaving.{Frees}
+use Rattle.group_steps.specs.Changing.{AnswersTry, EndsAt, EndsTry, FreesTry, is_made}
+use Rattle.group_steps.specs.Leaving.{FreesIn, FreesNone, MayTake}
 use Rattle.group_steps.specs.Missing.{IsStop, map_ok}
 use Rattle.group_steps.specs.Proposing.{HasLast, IsUnmade, asked_reply, change_asked, closing_reply}
 use Rattle.group_steps.specs.declared.changing.Tried.{Tried}
 use Rattle.group_steps.specs.declared.changing.Tried.TheVariants as tried
-use Rattle.group_steps.proofs.Giving.{cause_arrived, cause_other, frees_since, frees_then, gives_calm, gives_gives}
+use Rattle.group_steps.proofs.Giving.{after_tries, cause_arrived, cause_other, frees_as, frees_since, frees_then, gives_calm}
+use Rattle.group_steps.proofs.Giving.{may_before, may_here}
 use Rattle.group_steps.proofs.Making.{wanting}
 use Rattle.group_steps.proofs.Trying.{try_answered}
 use Rattle.asked_steps.specs.Runs.{IsBehind, IsFirst}
@@ -50,12 +51,23 @@ use Rattle.asked_steps.specs.declared.trying.Progress.TheVariants as progress
 
 -- THE BEGINNING OF A TRY
 
+-- what was given up, and then the seat looked
+looked_more : (c : Change) (n : ℕ) (before old new : Seated) → IsSameSeat before old → IsSameSeat old new
+    → own new.mark ≡ own old.mark → IsCalm old.view new.view
+    → FreesNone (MayTake before.table.sizes (Some c) before.mark old.mark) n before old
+    → FreesNone (MayTake before.table.sizes (Some c) before.mark new.mark) n before new
+looked_more c n before old new first then same calm a =
+    let may = MayTake before.table.sizes (Some c) before.mark new.mark in
+    frees_as may may (n + 0) n before new None (omega arith) (λ end is. is)
+    (after_tries before old new (Some c) n 0 None first then a
+    (gives_calm (MayTake old.table.sizes (Some c) old.mark new.mark) old new same calm))
+
 -- a call that lost so many tries arrives
-pub arrived_since : (means : Meanings) (reused : Type 0) (before old new : Seated) (lost : ℕ) (seen : List Entry) (base : Ref)
-    (first : ℕ) → IsSince reused before lost old
+pub arrived_since : (means : Meanings) (reused : Type 0) (before old new : Seated) (lost : ℕ) (c : Change)
+    (seen : List Entry) (base : Ref) (first : ℕ) → IsSince reused before lost c old
     → IsArrived means old.mark (when_seen old.mark seen) new.mark base first
-    → HasLooked reused old new → IsArrivedSince means reused before lost seen new
-arrived_since means reused before old new lost seen base first i a looked = record {
+    → HasLooked reused old new → IsArrivedSince means reused before lost c seen new
+arrived_since means reused before old new lost c seen base first i a looked = record {
   arrived = record {
     point = point_since means before.mark old.mark new.mark None seen i.same.later.seen i.same.later.seat i.own a.point;
     last = refl;
@@ -70,8 +82,7 @@ arrived_since means reused before old new lost seen base first i a looked = reco
   };
   same = seat-trans before old new i.same looked.seat;
   others = omega (arith, i.others, a.before, number);
-  gave = λ r. gives_gives before.table.sizes.slots before.view old.view new.view (i.gave r)
-      (gives_calm before.table.sizes.slots old.view new.view (looked.calm r));
+  gave = λ r. looked_more c lost before old new i.same looked.seat looked.own (looked.calm r) (i.gave r);
 }
   where
     number : others (when_seen old.mark seen) ≡ others (when_seen before.mark seen)
@@ -79,15 +90,18 @@ arrived_since means reused before old new lost seen base first i a looked = reco
 
 -- a call whose pin was lost to others ends
 pub refused_since : (means : Meanings) (reused : Type 0) (tries : ℕ) (before old new : Seated) (lost last : ℕ) (c : Change)
-    (e : Refusal) → IsSince reused before lost old → HasLooked reused old new
+    (e : Refusal) → IsSince reused before lost c old → HasLooked reused old new
     → (e ≡ refusal.Busy) × reused × (new.mark ≡ old.mark) → IsEnded means reused tries before new last c (Err e)
 refused_since means reused tries before old new lost last c e i looked busy = record {
   answer = wanting means tries before.mark new.mark e (change_asked c) (λ s. asked_reply means s last c) refl
       (ap is_resource_refusal busy.0) (ap own_moves busy.2 ∙ i.own, λ moved. absurd (cc (sym busy.0 ∙ moved)));
   cause = cause_other means reused last c before new e (λ full. cc (sym busy.0 ∙ full))
       (λ stamps. cc (sym busy.0 ∙ stamps)) (λ is. busy.1);
-  frees = λ r. gives_gives before.table.sizes.slots before.view old.view new.view (i.gave r)
-      (gives_calm before.table.sizes.slots old.view new.view (looked.calm r));
+  frees = λ r. (
+    lost,
+    omega (arith, i.others, others_grow old.mark new.mark looked.seat.later.seen looked.seat.later.seat),
+    looked_more c lost before old new i.same looked.seat looked.own (looked.calm r) (i.gave r),
+  );
 }
 
 -- THE END OF A TRY
@@ -95,13 +109,13 @@ refused_since means reused tries before old new lost last c e i looked busy = re
 -- a try that arrived ended so, and then the pin was taken away
 pub tried_since : (means : Meanings) (reused : Type 0) (tries : ℕ) (before mid done new : Seated) (lost last : ℕ) (c : Change)
     (seen : List Entry) (base : Ref) (r : Result Tried Refusal) → base ≡ last_move seen
-    → IsArrivedSince means reused before lost seen mid → IsSameSeat mid done → HasLooked reused done new
+    → IsArrivedSince means reused before lost c seen mid → IsSameSeat mid done → HasLooked reused done new
     → (reused → new.view ≡ with_pin done.view Absent) → new.mark ≡ done.mark
     → IfOk r (EndsTry means mid.mark done.mark base (after (record_of seen)) last c)
     → IfErr r (IsUnmade (IsStop reused) (change_asked c) (asked_reply means (after (record_of seen)) last c) tries
     mid.mark done.mark)
     → IfErr r (HasCauseAt means reused (after (record_of seen)) last c mid done)
-    → (reused → Frees before.table.sizes.slots mid done (change_tried c r))
+    → (reused → FreesTry (EndsAt before.table.sizes (after (record_of seen)) c) c mid done r)
     → TellsTurn means reused tries before lost new last c (turn_of r)
 tried_since means reused tries before mid done new lost last c seen base r stood a more looked behind mark ok err cause
     frees = ends r answers ok cause frees
@@ -112,27 +126,41 @@ tried_since means reused tries before mid done new lost last c seen base r stood
         more.later.seat (subst (λ (b : Ref). IfOk r (EndsTry means mid.mark done.mark b (after (record_of seen)) last c))
         stood ok) err
 
-    whole : (o : Option Change) → (reused → Frees before.table.sizes.slots mid done o)
-        → reused → Frees before.table.sizes.slots before new o
-    whole o f again = frees_then before.table.sizes.slots before done new o mark (looked.calm again)
-        (frees_since before.table.sizes.slots before mid done o a.same (a.gave again) (f again))
+    until : IsPrefix seen done.mark.log
+    until = prefix_trans seen mid.mark.log done.mark.log a.arrived.since more.later.seen
+
+    after_seen : others (when_seen before.mark seen) ≤ others done.mark
+    after_seen = others_grow (when_seen before.mark seen) done.mark until (more.later.seat ∙ a.same.later.seat)
+
+    whole : (m : ℕ) (o : Option Change) → reused
+        → FreesIn (EndsAt before.table.sizes (after (record_of seen)) c) m mid done o
+        → FreesIn (MayTake before.table.sizes (Some c) before.mark new.mark) (lost + m) before new o
+    whole m o again f = frees_then (MayTake before.table.sizes (Some c) before.mark done.mark)
+        (MayTake before.table.sizes (Some c) before.mark new.mark) (lost + m) before done new o
+        (λ end is. subst (λ (w : Known). MayTake before.table.sizes (Some c) before.mark w end) (sym mark) is) mark
+        (looked.calm again)
+        (frees_since (MayTake before.table.sizes (Some c) before.mark mid.mark)
+        (EndsAt before.table.sizes (after (record_of seen)) c) (MayTake before.table.sizes (Some c) before.mark done.mark)
+        lost m before mid done o a.same
+        (λ end is. may_before before.table.sizes (Some c) before.mark mid.mark done.mark end more.later.seen is)
+        (λ end is. may_here before.table before done c seen end refl a.arrived.point.since until is) (a.gave again) f)
 
     ends : (w : Result Tried Refusal) → AnswersTry means tries before.mark done.mark last c w
         → IfOk w (EndsTry means mid.mark done.mark base (after (record_of seen)) last c)
         → IfErr w (HasCauseAt means reused (after (record_of seen)) last c mid done)
-        → (reused → Frees before.table.sizes.slots mid done (change_tried c w))
+        → (reused → FreesTry (EndsAt before.table.sizes (after (record_of seen)) c) c mid done w)
         → TellsTurn means reused tries before lost new last c (turn_of w)
     ends (Ok (tried.Made at)) t is h f = record {
       answer = subst (λ (m : Known). IsLinearized means tries before.mark m (Ok true) (change_asked c)
           (λ s. asked_reply means s last c)) (sym mark) t.0;
       cause = tt;
-      frees = whole (Some c) f;
+      frees = λ again. (lost + 0, omega (arith, a.others, after_seen, ap others mark), whole 0 (Some c) again (f again));
     }
     ends (Ok tried.Same) t is h f = record {
       answer = subst (λ (m : Known). IsLinearized means tries before.mark m (map_ok is_made (Ok None)) (change_asked c)
           (λ s. asked_reply means s last c)) (sym mark) t;
       cause = tt;
-      frees = whole None f;
+      frees = λ again. (lost + 0, omega (arith, a.others, after_seen, ap others mark), whole 0 None again (f again));
     }
     ends (Ok tried.Lost) t is h f =
         let away = lost_to_others (when_seen before.mark seen) done.mark (last_move seen)
@@ -142,7 +170,7 @@ tried_since means reused tries before mid done new lost last c seen base r stood
           same = seat-trans before done new (seat-trans before mid done a.same more) looked.seat;
           own = ap own_moves mark ∙ t.0;
           others = omega (arith, a.others, away, ap others mark);
-          gave = whole None f;
+          gave = λ again. whole 1 None again (f again);
         }
     ends (Err e) t is h f = record {
       answer = subst (λ (m : Known). IsLinearized means tries before.mark m (Err e) (change_asked c)
@@ -150,8 +178,8 @@ tried_since means reused tries before mid done new lost last c seen base r stood
       cause = cause_arrived means reused last c before mid done new seen e a.arrived.point.since
           (subst (λ (m : Known). IsPrefix seen m.log) (sym mark)
           (prefix_trans seen mid.mark.log done.mark.log a.arrived.since more.later.seen)) a.same.table
-          (λ again. (a.gave again).loads) behind mark h;
-      frees = whole None f;
+          (λ again. (a.gave again).back.loads) behind mark h;
+      frees = λ again. (lost + 1, omega (arith, a.others, after_seen, ap others mark), whole 1 None again (f again));
     }
 
 -- WHAT IS FOUND

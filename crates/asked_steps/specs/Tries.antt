@@ -17,13 +17,12 @@ use Rattle.chunk_slots.specs.Seats.{IsIdle}
 use Rattle.commit_graph.specs.Seats.{GroupId, IsReading, IsSameSeat, Seated}
 use Rattle.answered.specs.Answered.{IsLinearized, own_moves}
 use Rattle.answered.specs.Trying.{IsBase}
-use Rattle.publishing.specs.Retiring.{GivesBack}
 use Rattle.group_steps.specs.Arriving.{IsArrived, when_seen}
 use Rattle.group_steps.specs.Causes.{HasCause}
 use Rattle.group_steps.specs.Changing.{is_made}
 use Rattle.group_steps.specs.declared.changing.Tried.{Tried}
 use Rattle.group_steps.specs.declared.changing.Tried.TheVariants as tried
-use Rattle.group_steps.specs.Leaving.{Frees}
+use Rattle.group_steps.specs.Leaving.{Frees, FreesNone, MayTake, spared}
 use Rattle.group_steps.specs.Missing.{map_ok}
 use Rattle.group_steps.specs.Proposing.{HasLast, asked_reply, change_asked}
 use Rattle.asked_steps.specs.Runs.{IsAskedRun, IsFirstRun, IsFresh, IsRunBehind}
@@ -36,22 +35,22 @@ use Rattle.asked_steps.specs.declared.trying.Turn.TheVariants as turn
 use Rattle.asked_steps.specs.declared.trying.Progress.{Progress}
 use Rattle.asked_steps.specs.declared.trying.Progress.TheVariants as progress
 
--- Since `before` the seat lost so many tries to others, and did no more: it moved no head, and retired only what it had
--- settled itself.
-pub record IsSince (reused : Type 0) (before : Seated) (lost : ℕ) (seat : Seated) : Type 0 where
+-- Since `before` the seat lost so many tries of the change to others, and did no more: it moved no head, and gave up one
+-- draft at most for each.
+pub record IsSince (reused : Type 0) (before : Seated) (lost : ℕ) (change : Change) (seat : Seated) : Type 0 where
   pub same : IsSameSeat before seat
   pub own : own_moves seat.mark ≡ own_moves before.mark
   pub others : others before.mark + lost ≤ others seat.mark
-  pub gave : reused → GivesBack before.table.sizes.slots before.view seat.view
+  pub gave : reused → FreesNone (MayTake before.table.sizes (Some change) before.mark seat.mark) lost before seat
 
 -- And then it arrived at the head, when it had seen this much of the book: that is the try that is under way.
-pub record IsArrivedSince (means : Meanings) (reused : Type 0) (before : Seated) (lost : ℕ) (seen : List Entry)
-    (seat : Seated) : Type 0 where
+pub record IsArrivedSince (means : Meanings) (reused : Type 0) (before : Seated) (lost : ℕ) (change : Change)
+    (seen : List Entry) (seat : Seated) : Type 0 where
   pub arrived : IsArrived means before.mark (when_seen before.mark seen) seat.mark (last_move seen)
       (next_stamp seat.mark.log)
   pub same : IsSameSeat before seat
   pub others : others before.mark + lost ≤ others (when_seen before.mark seen)
-  pub gave : reused → GivesBack before.table.sizes.slots before.view seat.view
+  pub gave : reused → FreesNone (MayTake before.table.sizes (Some change) before.mark seat.mark) lost before seat
 
 -- How a call ends that asked for the change: as one that was made at once.
 pub record IsEnded (means : Meanings) (reused : Type 0) (tries : ℕ) (before new : Seated) (last : ℕ) (change : Change)
@@ -59,7 +58,7 @@ pub record IsEnded (means : Meanings) (reused : Type 0) (tries : ℕ) (before ne
   pub answer : IsLinearized means tries before.mark new.mark (map_ok is_made made) (change_asked change)
       (λ s. asked_reply means s last change)
   pub cause : IfErr made (HasCause means reused last (Some change) before new)
-  pub frees : reused → Frees before.table.sizes.slots before new (change_asked change (map_ok is_made made))
+  pub frees : reused → Frees (Some change) (spared made) before new (change_asked change (map_ok is_made made))
 
 -- how a try went on that needed no run more
 abbrev pub turn_of : Result Tried Refusal → Turn
@@ -96,7 +95,7 @@ abbrev pub TellsTurn : Meanings → Type 0 → ℕ → Seated → ℕ → Seated
 TellsTurn means reused tries before lost new last change (turn.Run run) = Unit {0}
 TellsTurn means reused tries before lost new last change (turn.Ended made) = IsEnded means reused tries before new last
     change made
-TellsTurn means reused tries before lost new last change turn.Lost = IsSince reused before (lost + 1) new
+TellsTurn means reused tries before lost new last change turn.Lost = IsSince reused before (lost + 1) change new
 
 -- The change is under way at a seat of this group: its pin is held, the call arrived, and the run is one that the change
 -- asks for at the state there.
@@ -117,7 +116,7 @@ IsProgress means reused group new tries last change (progress.Ended made) = (reu
 -- what it tells of the whole call
 abbrev pub TellsProgress : Meanings → Type 0 → ℕ → Seated → Seated → ℕ → Change → {M : Type 0} → Progress M → Type 0
 TellsProgress means reused tries before new last change (progress.Run a) = IsArrivedSince means reused before a.lost
-    a.arrival.seen.log new
+    change a.arrival.seen.log new
 TellsProgress means reused tries before new last change (progress.Ended made) = IsEnded means reused tries before new
     last change made
 
@@ -133,7 +132,7 @@ abbrev pub TellsGoing : Meanings → Type 0 → ℕ → Seated → ℕ → Seate
     → Type 0
 TellsGoing means reused tries before lost new last change (Some p) = TellsProgress means reused tries before new last
     change p
-TellsGoing means reused tries before lost new last change None = IsSince reused before (lost + 1) new
+TellsGoing means reused tries before lost new last change None = IsSince reused before (lost + 1) change new
 
 -- what is next was asked for by the try as it went on
 abbrev pub IsPassed : Result Step Refusal → Turn → Type 0

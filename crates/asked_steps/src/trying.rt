@@ -11,8 +11,7 @@ ghost use Rattle.commit_graph.specs.Seats.{IsReading, IsSameSeat, IsSeatOf, Seat
 ghost use Rattle.answered.specs.Trying.{IsUnproposed};
 ghost use Rattle.group_history.specs.declared.refusals.Refusal.TheVariants as refusal;
 ghost use Rattle.group_steps.specs.Causes.{HasCauseAt};
-ghost use Rattle.group_steps.specs.Changing.{EndsTry, change_tried};
-ghost use Rattle.group_steps.specs.Leaving.{Frees};
+ghost use Rattle.group_steps.specs.Changing.{EndsAt, EndsTry, FreesTry};
 ghost use Rattle.group_steps.specs.Missing.{IsStop};
 ghost use Rattle.group_steps.specs.Proposing.{IsUnmade, MayAsk, MayPropose, asked_reply, change_asked};
 ghost use Rattle.asked_steps.specs.Runs.{IsAskedRun, IsRunOf, MayStep};
@@ -97,8 +96,8 @@ fn move_there<M: Means, S: Store<M>>(
         seat.old.mark seat.new.mark) }
     ensures cause { IfErr result (HasCauseAt M.means S.reused (after (record_of arrival.now.seen.log))
         request.now.before.id request.now.change.now seat.old seat.new) }
-    ensures frees { S.reused → Frees group.now.shared.table.sizes.slots seat.old seat.new
-        (change_tried request.now.change.now result) }
+    ensures frees { S.reused → FreesTry (EndsAt group.now.shared.table.sizes (after (record_of arrival.now.seen.log))
+        request.now.change.now) request.now.change.now seat.old seat.new result }
 {
     arrival.seen.legal();
     match move_head::<M, S>(&group.shared, seat, request.change, proposal, tries) {
@@ -135,8 +134,8 @@ fn make_there<M: Means, S: Store<M>>(
         seat.old.mark seat.new.mark) }
     ensures cause { IfErr result (HasCauseAt M.means S.reused (after (record_of arrival.now.seen.log))
         request.now.before.id request.now.change.now seat.old seat.new) }
-    ensures frees { S.reused → Frees group.now.shared.table.sizes.slots seat.old seat.new
-        (change_tried request.now.change.now result) }
+    ensures frees { S.reused → FreesTry (EndsAt group.now.shared.table.sizes (after (record_of arrival.now.seen.log))
+        request.now.change.now) request.now.change.now seat.old seat.new result }
 {
     match proposed {
         Ok(Some(proposal)) => move_there::<M, S>(group, seat, arrival, request, proposal, tries),
@@ -168,7 +167,7 @@ fn end_try<M: Means, S: Store<M>>(
         request.now.before.id request.now.change.now result }
     ensures none { NeedsNone result }
     ensures told { (before : Seated) (lost : ℕ)
-        → IsArrivedSince M.means S.reused before lost arrival.now.seen.log seat.old
+        → IsArrivedSince M.means S.reused before lost request.now.change.now arrival.now.seen.log seat.old
         → TellsTurn M.means S.reused tries before lost seat.new request.now.before.id request.now.change.now result }
 {
     let tried = make_there::<M, S>(group, seat, arrival, request, proposed, tries);
@@ -199,7 +198,7 @@ fn step_on<M: Means, S: Store<M>>(
         request.now.before.id request.now.change.now result }
     ensures passed { IsPassed step result }
     ensures told { (before : Seated) (lost : ℕ)
-        → IsArrivedSince M.means S.reused before lost arrival.now.seen.log seat.old
+        → IsArrivedSince M.means S.reused before lost request.now.change.now arrival.now.seen.log seat.old
         → TellsTurn M.means S.reused tries before lost seat.new request.now.before.id request.now.change.now result }
 {
     match step {
@@ -236,7 +235,7 @@ fn begin_there<M: Means, S: Store<M>>(
         request.now.before.id request.now.change.now result }
     ensures first { BeginsFirst (after (record_of arrival.now.seen.log)) request.now.change.now result }
     ensures told { (before : Seated) (lost : ℕ)
-        → IsArrivedSince M.means S.reused before lost arrival.now.seen.log seat.old
+        → IsArrivedSince M.means S.reused before lost request.now.change.now arrival.now.seen.log seat.old
         → TellsTurn M.means S.reused tries before lost seat.new request.now.before.id request.now.change.now result }
 {
     let at = At::new(group, seat, &arrival.seen, arrival.base, tries);
@@ -267,7 +266,7 @@ fn ran_there<M: Means, S: Store<M>>(
         request.now.before.id request.now.change.now result }
     ensures behind { GoesBehind (drawn seat.old.mark.log) run ran result }
     ensures told { (before : Seated) (lost : ℕ)
-        → IsArrivedSince M.means S.reused before lost arrival.now.seen.log seat.old
+        → IsArrivedSince M.means S.reused before lost request.now.change.now arrival.now.seen.log seat.old
         → TellsTurn M.means S.reused tries before lost seat.new request.now.before.id request.now.change.now result }
 {
     let at = At::new(group, seat, &arrival.seen, arrival.base, tries);
@@ -291,7 +290,7 @@ fn begin_try<M: Means, S: Store<M>>(
     ensures going { IsGoing M.means S.reused group.now.shared seat.new lost request.now.before.id
         request.now.change.now result }
     ensures first { StartsIfAny lost request.now.change.now result }
-    ensures told { (before : Seated) → IsSince S.reused before lost seat.old
+    ensures told { (before : Seated) → IsSince S.reused before lost request.now.change.now seat.old
         → TellsGoing M.means S.reused tries before lost seat.new request.now.before.id request.now.change.now result }
 {
     let arrival = match pin_and_load_both(&group.shared, seat, tries) {
@@ -325,7 +324,7 @@ pub fn ask_from<M: Means, S: Store<M>>(
     ensures stands { IsProgress M.means S.reused group.now.shared seat.new tries request.now.before.id
         request.now.change.now result }
     ensures first { StartsAnew lost request.now.change.now result }
-    ensures told { (before : Seated) → IsSince S.reused before lost seat.old
+    ensures told { (before : Seated) → IsSince S.reused before lost request.now.change.now seat.old
         → TellsProgress M.means S.reused tries before seat.new request.now.before.id request.now.change.now result }
 {
     for tried in lost..tries.max(1) {
@@ -358,7 +357,8 @@ pub fn ran_from<M: Means, S: Store<M>>(
     ensures stands { IsProgress M.means S.reused group.now.shared seat.new tries request.now.before.id
         request.now.change.now result }
     ensures next { Follows seat.old seat.new attempt ran request.now.change.now result }
-    ensures told { (before : Seated) → IsArrivedSince M.means S.reused before attempt.lost attempt.arrival.seen.log seat.old
+    ensures told { (before : Seated) → IsArrivedSince M.means S.reused before attempt.lost request.now.change.now
+        attempt.arrival.seen.log seat.old
         → TellsProgress M.means S.reused tries before seat.new request.now.before.id request.now.change.now result }
 {
     let Attempt { arrival, run, lost } = attempt;

@@ -1,8 +1,10 @@
 -- What a seat gives back, try after try, and why a change is refused in a later part of a call.
 use Rattle.std.proofs.Common.{◌≡◌, ◌≢◌, ◌≤◌, inl, inr, ℕ, true, Err, Some, None, Option, List, [], ◌∷◌, ◌++◌, refl, sym}
 use Rattle.std.proofs.Common.{ap, length, map, subst, ◌∙◌, arith}
-use Rattle.std.proofs.Common.{append-nil}
+use Rattle.std.proofs.Common.{append-nil, append_assoc, length-append, ◌<◌, ◌+◌, Ok, Result}
+use Rattle.std.proofs.lemmas.Grind.{flat_map-append}
 use Rattle.std.proofs.lemmas.List.{length-map}
+use Rattle.std.proofs.lemmas.List.Elements.{All-append, All-cons, All-map, All-nil}
 use Rattle.std.specs.Prelude.{slice_index_or}
 use mathlib.Core.List.{IsPrefix}
 use Rattle.std.specs.List.{All, Contains}
@@ -14,87 +16,135 @@ use Rattle.group_history.specs.declared.refusals.Refusal.{Refusal}
 use Rattle.group_history.specs.declared.refusals.Refusal.TheVariants as refusal
 use Rattle.group_history.specs.Meaning.{Meanings}
 use Rattle.group_history.specs.Record.{after}
-use Rattle.group_history.specs.Refs.{slot_of, stamp_of}
+use Rattle.group_history.specs.Refs.{max_slots, slot_of, stamp_of}
 use Rattle.group_history.specs.Spelling.{Contents, Version, version_at}
 use Rattle.group_history.specs.State.{State}
 use Rattle.group_history.proofs.Lists.{map_to, prefix_self, prefix_trans}
 use Rattle.head_word.specs.declared.entry.Entry.{Entry}
 use Rattle.map_chunks.specs.Drafts.{IsLate}
 use Rattle.head_word.specs.Books.{drafted as drafted_by, drawn, moved, next_stamp, record_of}
-use Rattle.head_word.specs.Marks.{Known}
+use Rattle.head_word.specs.Marks.{Known, own}
 use Rattle.head_word.proofs.Books.{drawn_more}
 use Rattle.reader_claims.specs.declared.view.View.{View}
 use Rattle.reader_claims.specs.declared.words.Pin.TheVariants.{Absent}
 use Rattle.reader_claims.specs.Deeds.{Deed}
 use Rattle.reader_claims.specs.Seats.{ClaimsId, kind_end}
 use Rattle.reader_claims.specs.declared.slot.Kind.{Kind}
+use Rattle.reader_claims.specs.declared.view.Sizes.{Sizes}
 use Rattle.reader_claims.specs.Views.{with_pin}
 use Rattle.commit_graph.specs.Reach.{IsDropped, Reaches}
 use Rattle.commit_graph.specs.Seats.{IsCalm, IsSameSeat, Seated}
 use Rattle.commit_graph.proofs.Reached.{reaches_back, reaches_stays, there_version}
 use Rattle.answered.specs.Answered.{is_resource_refusal}
 use Rattle.answered.specs.Trying.{IsMove, IsUnproposed}
-use Rattle.map_chunks.specs.Drafts.{Drafted}
 use Rattle.publishing.specs.Placed.{AreDrawnBy, FoundNone, LieBelow}
-use Rattle.publishing.specs.Retiring as retiring
-use Rattle.publishing.specs.Retiring.{AreFreed, GivesBack, GivesUp, IsGivenUp, drafted}
-use Rattle.publishing.proofs.Leaving.{freed_known, gives_up_known}
+use Rattle.publishing.specs.Retiring.{AreFreed, GivenUp, GivesOneUp, GivesUp, drafted, entries_of}
+use Rattle.publishing.proofs.Leaving.{freed_known, gives_up_known, gives_up_more}
 use Rattle.publishing.proofs.Passing.{KnowsAs, all_shut_as, pins_as}
 use Rattle.group_steps.specs.Causes.{HasCause, HasCauseAt, LacksRoom}
-use Rattle.group_steps.specs.Leaving.{AreLeft, Frees}
+use Rattle.group_steps.specs.Changing.{EndsAt, FreesTry}
+use Rattle.group_steps.specs.Leaving.{AreLeft, FreesIn, FreesNone, GivesBack, MayTake}
 use Rattle.group_steps.specs.Missing.{IsStop}
 use Rattle.group_steps.specs.Proposing.{IsProposalFor, asked_reply, change_asked, kind_for}
+use Rattle.group_steps.specs.declared.changing.Tried.{Tried}
+use Rattle.group_steps.specs.declared.changing.Tried.TheVariants as tried
 use Rattle.group_steps.specs.declared.proposing.Proposal.{Proposal}
 use Rattle.group_steps.proofs.Ending.{never_asked}
 
 -- WHAT IS GIVEN BACK
 
--- a seat that did nothing to slots
-pub gives_none : (slots : ℕ) (v : View) → GivesBack slots v v
-gives_none slots v = record { gave = retiring.none; loads = omega arith; reached = omega arith }
-
-pub gives_calm : (slots : ℕ) (v u : View) → IsCalm v u → GivesBack slots v u
-gives_calm slots v u calm = record {
-  gave = subst (GivesUp slots u.reached v.deeds) (sym calm.deeds) retiring.none;
-  loads = calm.loads;
-  reached = calm.reached;
+-- a seat that did nothing to slots and to the book
+pub gives_calm : (may : ℕ → Type 0) (old new : Seated) → own new.mark ≡ own old.mark → IsCalm old.view new.view
+    → FreesNone may 0 old new
+gives_calm may old new same calm = record {
+  given = [];
+  few = omega arith;
+  back = record { ends = All-nil (λ (g : GivenUp). may g.end); gave = calm.deeds; loads = calm.loads; reached = calm.reached };
+  own = same ∙ sym (append-nil (own old.mark));
 }
 
+pub gives_none : (may : ℕ → Type 0) (old : Seated) → FreesNone may 0 old old
+gives_none may old = gives_calm may old old refl
+    (record { deeds = refl; taken = refl; loads = omega arith; reached = omega arith })
+
 -- a draft that was given up
-pub gives_up : (slots count : ℕ) (v u : View) → v.epoch_loads ≤ u.epoch_loads → v.reached ≤ u.reached
-    → IsGivenUp slots u.reached count v.deeds u.deeds → GivesBack slots v u
-gives_up slots count v u loads reached up = record {
-  gave = retiring.more v.deeds u.deeds up.settled up.withdrawn retiring.none up.freed;
-  loads = loads;
-  reached = reached;
+pub gives_up : (may : ℕ → Type 0) (end count : ℕ) (old new : Seated) → may end
+    → old.view.epoch_loads ≤ new.view.epoch_loads → old.view.reached ≤ new.view.reached
+    → GivesOneUp old.table.sizes.slots end count old.view.deeds old new → FreesNone may 1 old new
+gives_up may end count old new ends loads reached one = record {
+  given = one.given ∷ [];
+  few = omega arith;
+  back = record {
+    ends = All-cons (λ (g : GivenUp). may g.end) one.given [] (subst may (sym one.ends) ends)
+        (All-nil (λ (g : GivenUp). may g.end));
+    gave = (new.view.deeds, one.up, refl);
+    loads = loads;
+    reached = reached;
+  };
+  own = one.own ∙ ap (λ (es : List Entry). own old.mark ++ es) (sym (append-nil one.given.entries));
 }
 
 -- a draft that was placed, and whose slots were let go then
-pub gives_lost : (slots : ℕ) (v w u : View) (draft : Drafted) (refs : List Ref) → length refs ≡ length draft.nodes
-    → v.epoch_loads ≤ w.epoch_loads → v.reached ≤ w.reached → w.epoch_loads ≤ u.epoch_loads → w.reached ≤ u.reached
-    → w.deeds ≡ drafted (map slot_of refs) [] v.deeds
-    → AreFreed slots u.reached (map slot_of refs) w.deeds u.deeds → GivesBack slots v u
-gives_lost slots v w u draft refs count loads reached more_loads more_reached was freed =
-    gives_up slots (length draft.nodes) v u (omega arith) (omega arith) record {
-      settled = map slot_of refs;
-      withdrawn = [];
-      few = omega (arith, count, length-map refs slot_of, ap length (append-nil (map slot_of refs)));
-      freed = subst (λ (xs : List Deed). AreFreed slots u.reached (map slot_of refs) xs u.deeds) was freed;
-    }
+pub gives_lost : (may : ℕ → Type 0) (end : ℕ) (old mid new : Seated) (refs : List Ref) → may end → LieBelow end refs
+    → AreDrawnBy old.mark mid.mark refs → own new.mark ≡ own mid.mark
+    → old.view.epoch_loads ≤ new.view.epoch_loads → old.view.reached ≤ new.view.reached
+    → mid.view.deeds ≡ drafted (map slot_of refs) [] old.view.deeds
+    → AreFreed old.table.sizes.slots new.view.reached (map slot_of refs) mid.view.deeds new.view.deeds
+    → FreesNone may 1 old new
+gives_lost may end old mid new refs ends low d same loads reached was freed =
+    gives_up may end (length refs) old new ends loads reached (record {
+      given = record {
+        end = end;
+        settled = map slot_of refs;
+        withdrawn = [];
+        entries = drafted_by old.mark.seat d.first d.contents ∷ [];
+      };
+      ends = refl;
+      few = omega (arith, many, whole);
+      up = record {
+        within = subst (All (λ i. i < end)) (sym (append-nil (map slot_of refs)))
+            (All-map (λ i. i < end) slot_of refs low);
+        drew = inr (d.first, d.contents, omega (arith, many, whole, d.count), refl);
+        freed = subst (λ (xs : List Deed). AreFreed old.table.sizes.slots new.view.reached (map slot_of refs) xs
+            new.view.deeds) was freed;
+      };
+      own = same ∙ d.own;
+    })
+  where
+    many : length (map slot_of refs) ≡ length refs
+    many = length-map refs slot_of
 
-given_up_since : (slots reached : ℕ) (xs ys zs : List Deed) → GivesUp slots reached xs ys → GivesUp slots reached ys zs
-    → GivesUp slots reached xs zs
-given_up_since slots reached xs ys zs a retiring.none = a
-given_up_since slots reached xs ys zs a (retiring.more between _ settled withdrawn b freed) =
-    retiring.more between zs settled withdrawn (given_up_since slots reached xs ys between a b) freed
+    whole : length (map slot_of refs ++ []) ≡ length (map slot_of refs)
+    whole = ap length (append-nil (map slot_of refs))
 
-pub gives_gives : (slots : ℕ) (v w u : View) → GivesBack slots v w → GivesBack slots w u → GivesBack slots v u
-gives_gives slots v w u a b = record {
-  gave = given_up_since slots u.reached v.deeds w.deeds u.deeds
-      (gives_up_known slots w.reached u.reached v.deeds w.deeds b.reached a.gave) b.gave;
+-- which kinds of ends are allowed may be said in more words
+ends_as : (may more : ℕ → Type 0) (gs : List GivenUp) → ((end : ℕ) → may end → more end) → All (λ g. may g.end) gs
+    → All (λ g. more g.end) gs
+ends_as may more gs f all k d low = f (slice_index_or gs k d).end (all k d low)
+
+-- one part of a call after the other
+back_since : (may more all : ℕ → Type 0) (old mid new : Seated) (gs hs : List GivenUp) (ys : List Deed)
+    → IsSameSeat old mid → ((end : ℕ) → may end → all end) → ((end : ℕ) → more end → all end)
+    → GivesBack may gs old mid mid.view.deeds → GivesBack more hs mid new ys → GivesBack all (gs ++ hs) old new ys
+back_since may more all old mid new gs hs ys same f h a b = record {
+  ends = All-append (λ (g : GivenUp). all g.end) gs hs (ends_as may all gs f a.ends) (ends_as more all hs h b.ends);
+  gave = gives_up_more old.table.sizes.slots new.view.reached old.mark.seat gs hs old.view.deeds mid.view.deeds ys
+      (gives_up_known old.table.sizes.slots mid.view.reached new.view.reached old.mark.seat gs old.view.deeds
+      mid.view.deeds b.reached a.gave)
+      (subst (λ (t : ClaimsId). GivesUp t.sizes.slots new.view.reached old.mark.seat hs mid.view.deeds ys) same.table
+      (subst (λ (n : Option ℕ). GivesUp mid.table.sizes.slots new.view.reached n hs mid.view.deeds ys)
+      same.later.seat b.gave));
   loads = let x = a.loads in let y = b.loads in omega arith;
   reached = let x = a.reached in let y = b.reached in omega arith;
 }
+
+-- what was added to the book since
+own_since : (old mid new : Known) (gs hs : List GivenUp) (more : List Entry) → own mid ≡ own old ++ entries_of gs
+    → own new ≡ own mid ++ (entries_of hs ++ more) → own new ≡ own old ++ (entries_of (gs ++ hs) ++ more)
+own_since old mid new gs hs more a b = b ∙ ap (λ (es : List Entry). es ++ (entries_of hs ++ more)) a
+    ∙ append_assoc (own old) (entries_of gs) (entries_of hs ++ more)
+    ∙ ap (λ (es : List Entry). own old ++ es) (sym (append_assoc (entries_of gs) (entries_of hs) more))
+    ∙ ap (λ (es : List Entry). own old ++ (es ++ more)) (sym (flat_map-append (λ (g : GivenUp). g.entries) gs hs))
 
 -- WHAT IS LEFT BEHIND
 
@@ -140,37 +190,19 @@ move_since old mid new base to c pre seat g = (
 pub drawn_grown : (old new : List Entry) → IsPrefix old new → IsPrefix (drawn old) (drawn new)
 drawn_grown old new pre = (drawn pre.0, sym (drawn_more old pre.0) ∙ ap drawn pre.1)
 
--- stamps that were drawn in a later part of a call
-pub drawn_since : (old mid new : Known) (refs : List Ref) → IsPrefix old.log mid.log → mid.seat ≡ old.seat
-    → AreDrawnBy mid new refs → AreDrawnBy old new refs
-drawn_since old mid new refs pre seat d = record {
-  log = d.log;
-  first = d.first;
-  contents = d.contents;
-  since = prefix_trans old.log mid.log d.log pre d.since;
-  until = subst (λ (s : Option ℕ). IsPrefix (d.log ++ drafted_by s d.first d.contents ∷ []) new.log) seat d.until;
-  stamps = d.stamps;
-  count = d.count;
-}
-
--- and in an earlier part
-pub drawn_until : (old mid new : Known) (refs : List Ref) → IsPrefix mid.log new.log → AreDrawnBy old mid refs
-    → AreDrawnBy old new refs
-drawn_until old mid new refs post d = record {
-  log = d.log;
-  first = d.first;
-  contents = d.contents;
-  since = d.since;
-  until = prefix_trans _ mid.log new.log d.until post;
-  stamps = d.stamps;
-  count = d.count;
-}
-
 -- an earlier part gave up drafts
-pub frees_since : (slots : ℕ) (old mid new : Seated) (o : Option Change) → IsSameSeat old mid
-    → GivesBack slots old.view mid.view → Frees slots mid new o → Frees slots old new o
-frees_since slots old mid new None same gave frees = gives_gives slots old.view mid.view new.view gave frees
-frees_since slots old mid new (Some c) same gave f = record {
+pub frees_since : (may more all : ℕ → Type 0) (n m : ℕ) (old mid new : Seated) (o : Option Change) → IsSameSeat old mid
+    → ((end : ℕ) → may end → all end) → ((end : ℕ) → more end → all end) → FreesNone may n old mid
+    → FreesIn more m mid new o → FreesIn all (n + m) old new o
+frees_since may more all n m old mid new None same g h a b = record {
+  given = a.given ++ b.given;
+  few = let x = a.few in let y = b.few in omega (arith, length-append a.given b.given);
+  back = back_since may more all old mid new a.given b.given new.view.deeds same g h a.back b.back;
+  own = own_since old.mark mid.mark new.mark a.given b.given [] a.own
+      (b.own ∙ ap (λ (es : List Entry). own mid.mark ++ es) (sym (append-nil (entries_of b.given))))
+      ∙ ap (λ (es : List Entry). own old.mark ++ es) (append-nil (entries_of (a.given ++ b.given)));
+}
+frees_since may more all n m old mid new (Some c) same g h a f = record {
   base = f.base;
   to = f.to;
   goes = move_since old.mark mid.mark new.mark f.base f.to c same.later.seen same.later.seat f.goes;
@@ -180,25 +212,44 @@ frees_since slots old mid new (Some c) same gave f = record {
   left = f.left;
   are = f.are;
   refs = f.refs;
-  own = drawn_since old.mark mid.mark new.mark f.refs same.later.seen same.later.seat f.own;
+  first = f.first;
+  contents = f.contents;
+  stamps = f.stamps;
+  each = f.each;
   within = subst (λ (t : ClaimsId). LieBelow (kind_end t.sizes (kind_for (after (record_of f.log)) c)) f.refs)
       same.table f.within;
   among = f.among;
   needed = f.needed;
+  given = a.given ++ f.given;
+  few = let x = a.few in let y = f.few in omega (arith, length-append a.given f.given);
   lost = f.lost;
-  gave = given_up_since slots new.view.reached old.view.deeds mid.view.deeds f.lost
-      (gives_up_known slots mid.view.reached new.view.reached old.view.deeds mid.view.deeds f.reached gave.gave) f.gave;
-  freed = f.freed;
-  loads = let x = gave.loads in let y = f.loads in omega arith;
-  reached = let x = gave.reached in let y = f.reached in omega arith;
+  back = back_since may more all old mid new a.given f.given f.lost same g h a.back f.back;
+  own = own_since old.mark mid.mark new.mark a.given f.given
+      (drafted_by old.mark.seat f.first f.contents ∷ moved old.mark.seat f.to (Some c) ∷ []) a.own
+      (subst (λ (s : Option ℕ). own new.mark ≡ own mid.mark ++ (entries_of f.given
+      ++ drafted_by s f.first f.contents ∷ moved s f.to (Some c) ∷ [])) same.later.seat f.own);
+  freed = subst (λ (t : ClaimsId). AreFreed t.sizes.slots new.view.reached (map slot_of f.left)
+      (drafted (map slot_of f.refs) [] f.lost) new.view.deeds) same.table f.freed;
 }
 
 -- and a later part did nothing to slots, and saw nothing of the book
-pub frees_then : (slots : ℕ) (old mid new : Seated) (o : Option Change) → new.mark ≡ mid.mark
-    → IsCalm mid.view new.view → Frees slots old mid o → Frees slots old new o
-frees_then slots old mid new None same calm frees = gives_gives slots old.view mid.view new.view frees
-    (gives_calm slots mid.view new.view calm)
-frees_then slots old mid new (Some c) same calm f = record {
+pub frees_then : (may all : ℕ → Type 0) (n : ℕ) (old mid new : Seated) (o : Option Change)
+    → ((end : ℕ) → may end → all end) → new.mark ≡ mid.mark → IsCalm mid.view new.view → FreesIn may n old mid o
+    → FreesIn all n old new o
+frees_then may all n old mid new None h same calm a = record {
+  given = a.given;
+  few = a.few;
+  back = record {
+    ends = ends_as may all a.given h a.back.ends;
+    gave = subst (GivesUp old.table.sizes.slots new.view.reached old.mark.seat a.given old.view.deeds) (sym calm.deeds)
+        (gives_up_known old.table.sizes.slots mid.view.reached new.view.reached old.mark.seat a.given old.view.deeds
+        mid.view.deeds calm.reached a.back.gave);
+    loads = let x = a.back.loads in let y = calm.loads in omega arith;
+    reached = let x = a.back.reached in let y = calm.reached in omega arith;
+  };
+  own = ap own same ∙ a.own;
+}
+frees_then may all n old mid new (Some c) h same calm f = record {
   base = f.base;
   to = f.to;
   goes = subst (λ (m : Known). IsMove old.mark m f.base f.to c) (sym same) f.goes;
@@ -208,19 +259,127 @@ frees_then slots old mid new (Some c) same calm f = record {
   left = f.left;
   are = subst (λ (m : Known). AreLeft (drawn m.log) f.base f.to c f.left) (sym same) f.are;
   refs = f.refs;
-  own = subst (λ (m : Known). AreDrawnBy old.mark m f.refs) (sym same) f.own;
+  first = f.first;
+  contents = f.contents;
+  stamps = f.stamps;
+  each = f.each;
   within = f.within;
   among = f.among;
   needed = subst (λ (m : Known). (at : Ref) → Contains f.refs at → Reaches (drawn m.log) (stamp_of f.to) (stamp_of at))
       (sym same) f.needed;
+  given = f.given;
+  few = f.few;
   lost = f.lost;
-  gave = gives_up_known slots mid.view.reached new.view.reached old.view.deeds f.lost calm.reached f.gave;
-  freed = subst (AreFreed slots new.view.reached (map slot_of f.left) (drafted (map slot_of f.refs) [] f.lost))
-      (sym calm.deeds) (freed_known slots mid.view.reached new.view.reached (map slot_of f.left)
+  back = record {
+    ends = ends_as may all f.given h f.back.ends;
+    gave = gives_up_known old.table.sizes.slots mid.view.reached new.view.reached old.mark.seat f.given old.view.deeds
+        f.lost calm.reached f.back.gave;
+    loads = let x = f.back.loads in let y = calm.loads in omega arith;
+    reached = let x = f.back.reached in let y = calm.reached in omega arith;
+  };
+  own = ap own same ∙ f.own;
+  freed = subst (AreFreed old.table.sizes.slots new.view.reached (map slot_of f.left)
+      (drafted (map slot_of f.refs) [] f.lost)) (sym calm.deeds)
+      (freed_known old.table.sizes.slots mid.view.reached new.view.reached (map slot_of f.left)
       (drafted (map slot_of f.refs) [] f.lost) mid.view.deeds calm.reached f.freed);
-  loads = let x = f.loads in let y = calm.loads in omega arith;
-  reached = let x = f.reached in let y = calm.reached in omega arith;
 }
+
+-- it may be said in more words which slots may be taken, and that more drafts at most were given up
+pub frees_as : (may all : ℕ → Type 0) (n m : ℕ) (old new : Seated) (o : Option Change) → n ≤ m
+    → ((end : ℕ) → may end → all end) → FreesIn may n old new o → FreesIn all m old new o
+frees_as may all n m old new None low h a = record {
+  given = a.given;
+  few = let x = a.few in omega arith;
+  back = record {
+    ends = ends_as may all a.given h a.back.ends;
+    gave = a.back.gave;
+    loads = a.back.loads;
+    reached = a.back.reached;
+  };
+  own = a.own;
+}
+frees_as may all n m old new (Some c) low h f = record {
+  base = f.base;
+  to = f.to;
+  goes = f.goes;
+  log = f.log;
+  seen = f.seen;
+  stood = f.stood;
+  left = f.left;
+  are = f.are;
+  refs = f.refs;
+  first = f.first;
+  contents = f.contents;
+  stamps = f.stamps;
+  each = f.each;
+  within = f.within;
+  among = f.among;
+  needed = f.needed;
+  given = f.given;
+  few = let x = f.few in omega arith;
+  lost = f.lost;
+  back = record {
+    ends = ends_as may all f.given h f.back.ends;
+    gave = f.back.gave;
+    loads = f.back.loads;
+    reached = f.back.reached;
+  };
+  own = f.own;
+  freed = f.freed;
+}
+
+-- a part of a try: before it the seat looked, and behind it too, where it saw nothing more of the book
+pub try_within : (may all : ℕ → Type 0) (c : Change) (old mid done new : Seated) (r : Result Tried Refusal)
+    → IsSameSeat old mid → own mid.mark ≡ own old.mark → IsCalm old.view mid.view → new.mark ≡ done.mark
+    → IsCalm done.view new.view → ((end : ℕ) → may end → all end) → FreesTry may c mid done r → FreesTry all c old new r
+try_within may all c old mid done new (Ok (tried.Made at)) same none calm kept last h f =
+    frees_then may all 0 old done new (Some c) h kept last
+    (frees_since may may may 0 0 old mid done (Some c) same (λ end is. is) (λ end is. is)
+    (gives_calm may old mid none calm) f)
+try_within may all c old mid done new (Ok tried.Same) same none calm kept last h f =
+    frees_then may all 0 old done new None h kept last
+    (frees_since may may may 0 0 old mid done None same (λ end is. is) (λ end is. is) (gives_calm may old mid none calm) f)
+try_within may all c old mid done new (Ok tried.Lost) same none calm kept last h f =
+    frees_then may all 1 old done new None h kept last
+    (frees_since may may may 0 1 old mid done None same (λ end is. is) (λ end is. is) (gives_calm may old mid none calm) f)
+try_within may all c old mid done new (Err e) same none calm kept last h f =
+    frees_then may all 1 old done new None h kept last
+    (frees_since may may may 0 1 old mid done None same (λ end is. is) (λ end is. is) (gives_calm may old mid none calm) f)
+
+-- what may be taken in a part of a call may be taken in the call
+pub may_behind : (sizes : Sizes) (asked : Option Change) (old mid new : Known) (end : ℕ) → IsPrefix old.log mid.log
+    → MayTake sizes asked mid new end → MayTake sizes asked old new end
+may_behind sizes None old mid new end pre m = m
+may_behind sizes (Some c) old mid new end pre (log, since, until, is) =
+    (log, prefix_trans old.log mid.log log pre since, until, is)
+
+pub may_before : (sizes : Sizes) (asked : Option Change) (old mid new : Known) (end : ℕ) → IsPrefix mid.log new.log
+    → MayTake sizes asked old mid end → MayTake sizes asked old new end
+may_before sizes None old mid new end post m = m
+may_before sizes (Some c) old mid new end post (log, since, until, is) =
+    (log, since, prefix_trans log mid.log new.log until post, is)
+
+-- at a state that the call came to see
+pub may_here : (table : ClaimsId) (old new : Seated) (c : Change) (log : List Entry) (end : ℕ) → old.table ≡ table
+    → IsPrefix old.mark.log log → IsPrefix log new.mark.log → EndsAt table.sizes (after (record_of log)) c end
+    → MayTake old.table.sizes (Some c) old.mark new.mark end
+may_here table old new c log end same since until is = (
+  log,
+  since,
+  until,
+  subst (λ (t : ClaimsId). end ≡ kind_end t.sizes (kind_for (after (record_of log)) c)) (sym same) is,
+)
+
+-- the try after so many
+pub after_tries : (old mid new : Seated) (asked : Option Change) (n m : ℕ) (o : Option Change) → IsSameSeat old mid
+    → IsSameSeat mid new → FreesNone (MayTake old.table.sizes asked old.mark mid.mark) n old mid
+    → FreesIn (MayTake mid.table.sizes asked mid.mark new.mark) m mid new o
+    → FreesIn (MayTake old.table.sizes asked old.mark new.mark) (n + m) old new o
+after_tries old mid new asked n m o first then a b = frees_since (MayTake old.table.sizes asked old.mark mid.mark)
+    (MayTake mid.table.sizes asked mid.mark new.mark) (MayTake old.table.sizes asked old.mark new.mark) n m old mid
+    new o first (λ end is. may_before old.table.sizes asked old.mark mid.mark new.mark end then.later.seen is)
+    (λ end is. may_behind old.table.sizes asked old.mark mid.mark new.mark end first.later.seen
+    (subst (λ (t : ClaimsId). MayTake t.sizes asked mid.mark new.mark end) first.table is)) a b
 
 -- CAUSES
 
@@ -243,12 +402,14 @@ pub cause_unproposed : (means : Meanings) (reused : Type 0) (s : State) (last : 
 cause_unproposed means reused s last c old new e (inl stop, other) late = record {
   asked = λ full. absurd (stop_full reused e stop full);
   room = λ r full. absurd (stop_full reused e stop full);
+  past = λ r full. absurd (stop_full reused e stop full);
   busy = stop_busy reused e stop;
   stamps = late;
 }
 cause_unproposed means reused s last c old new e (inr right, other) late = record {
   asked = λ full. absurd (never refusal.Full refl full);
   room = λ r full. absurd (never refusal.Full refl full);
+  past = λ r full. absurd (never refusal.Full refl full);
   busy = λ busy. absurd (never refusal.Busy refl busy);
   stamps = late;
 }
@@ -353,6 +514,7 @@ cause_arrived means reused last c old mid done new log e since until table befor
         (subst (λ (m : Known). IsPrefix done.mark.log m.log) (sym same) (prefix_self done.mark.log))
         (knows_unpinned done.view new.view (behind r)) (ap (λ (y : View). y.deeds) (behind r)) (h.room r is);
   };
+  past = λ r is. (refl, subst (λ (m : Known). max_slots ≤ next_stamp m.log) (sym same) (h.past r is));
   busy = h.busy;
   stamps = λ is. (refl, subst (λ (m : Known). IsLate (next_stamp m.log)) (sym same) (h.stamps is));
 }
@@ -371,6 +533,7 @@ cause_since means reused last c old mid new e pre table before h = record {
     room = lacks_more means (after (record_of l.log)) c old mid new new table (before r) (prefix_self new.mark.log)
         (knows_self new.view) refl l.room;
   };
+  past = h.past;
   busy = h.busy;
   stamps = h.stamps;
 }
@@ -380,6 +543,7 @@ pub cause_other : (means : Meanings) (reused : Type 0) (last : ℕ) (c : Change)
     → e ≢ refusal.Full → e ≢ refusal.Stamps → (e ≡ refusal.Busy → reused) → HasCause means reused last (Some c) old new e
 cause_other means reused last c old new e other some busy = record {
   full = λ r is. absurd (other is);
+  past = λ r is. absurd (other is);
   busy = busy;
   stamps = λ is. absurd (some is);
 }

@@ -27,7 +27,7 @@ use Rattle.answered.proofs.Losing.{lost_to_others, point_since}
 use Rattle.group_steps.specs.Missing.{IsStop, map_ok}
 use Rattle.group_steps.specs.Arriving.{IsArrived}
 use Rattle.group_steps.specs.Changing.{AnswersTry, EndsTry}
-use Rattle.group_steps.specs.Proposing.{HasLast, IsUnmade, MayAsk, asked_reply, change_asked}
+use Rattle.group_steps.specs.Proposing.{HasLast, IsUnmade, MayAsk, StaysFound, asked_reply, change_asked}
 use Rattle.group_steps.specs.declared.changing.Tried.{Tried}
 use Rattle.group_steps.specs.declared.changing.Tried.TheVariants as tried
 use Rattle.group_steps.proofs.Finding.{last_grown}
@@ -42,6 +42,38 @@ may_ask_grown old new before (Mutated x) more asks =
     (last_grown old new (stamp_of before.at) x.client before.id more asks.0, asks.1, asks.2)
 may_ask_grown old new before (Pulled t r) more asks = tt
 may_ask_grown old new before Closed more asks = tt
+
+-- WHERE A LAST ID IS FOUND
+
+pub found_self : (cs : Contents) (found : LastId) (c : Change) → MayAsk cs found c → StaysFound cs found found c
+found_self cs found (Mutated x) asks = (asks.0, refl)
+found_self cs found (Pulled t r) asks = refl
+found_self cs found Closed asks = refl
+
+pub found_id : (cs : Contents) (old new : LastId) (c : Change) → StaysFound cs old new c → new.id ≡ old.id
+found_id cs old new (Mutated x) is = is.1
+found_id cs old new (Pulled t r) is = ap (λ (l : LastId). l.id) is
+found_id cs old new Closed is = ap (λ (l : LastId). l.id) is
+
+pub found_grown : (old new : List Entry) (one two : LastId) (c : Change) → IsPrefix old new
+    → StaysFound (drawn old) one two c → StaysFound (drawn new) one two c
+found_grown old new one two (Mutated x) more is =
+    (last_grown old new (stamp_of two.at) x.client two.id more is.0, is.1)
+found_grown old new one two (Pulled t r) more is = is
+found_grown old new one two Closed more is = is
+
+pub found_more : (cs more : Contents) (one two three : LastId) (c : Change) → StaysFound cs one two c
+    → StaysFound more two three c → StaysFound more one three c
+found_more cs more one two three (Mutated x) a b = (b.0, b.1 ∙ a.1)
+found_more cs more one two three (Pulled t r) a b = b ∙ a
+found_more cs more one two three Closed a b = b ∙ a
+
+-- so the same may be asked by what is found there
+pub found_asks : (cs : Contents) (old new : LastId) (c : Change) → MayAsk cs old c → StaysFound cs old new c
+    → MayAsk cs new c
+found_asks cs old new (Mutated x) asks is = (is.0, asks.1 ∙ ap (λ (n : ℕ). n + 1) (sym is.1), asks.2)
+found_asks cs old new (Pulled t r) asks is = tt
+found_asks cs old new Closed asks is = tt
 
 -- WHERE IT STANDS
 

@@ -1,5 +1,5 @@
 -- Why a change was refused for want of something.
-use Rattle.std.specs.Prelude.{ℕ, ◌≡◌, true, List, length, Option, Some, None, IsSome, Ok}
+use Rattle.std.specs.Prelude.{ℕ, ◌≡◌, ◌≤◌, true, List, length, Option, Some, None, IsSome, Ok}
 use Rattle.map_chunks.specs.Drafts.{IsLate}
 use mathlib.Core.List.{IsPrefix}
 use Rattle.group_history.specs.declared.changes.Change.{Change}
@@ -7,6 +7,7 @@ use Rattle.group_history.specs.declared.refusals.Refusal.{Refusal}
 use Rattle.group_history.specs.declared.refusals.Refusal.TheVariants as refusal
 use Rattle.group_history.specs.Meaning.{Meanings}
 use Rattle.group_history.specs.Record.{after}
+use Rattle.group_history.specs.Refs.{max_slots}
 use Rattle.group_history.specs.State.{State}
 use Rattle.head_word.specs.declared.entry.Entry.{Entry}
 use Rattle.head_word.specs.Books.{drawn, next_stamp, record_of}
@@ -36,11 +37,12 @@ abbrev pub Lacks : Meanings → ℕ → Option Change → Seated → Seated → 
 Lacks means last None old new = ⊥
 Lacks means last (Some c) old new = LacksSlots means last c old new
 
--- The refusal has its cause: Full a pass, where slots are used again, Busy other seats, and Stamps a change that was to
--- be drafted where half of all stamps are drawn.
+-- The refusal has its cause: Full a pass, where slots are used again, and else that so many stamps are drawn as there are
+-- slot numbers; Busy other seats; and Stamps a change that was to be drafted where all stamps but 2^32 are drawn.
 pub record HasCause (means : Meanings) (reused : Type 0) (last : ℕ) (asked : Option Change) (old new : Seated)
     (e : Refusal) : Type 0 where
   pub full : reused → e ≡ refusal.Full → Lacks means last asked old new
+  pub past : (reused → ⊥) → e ≡ refusal.Full → IsSome asked × (max_slots ≤ next_stamp new.mark.log)
   pub busy : e ≡ refusal.Busy → reused
   pub stamps : e ≡ refusal.Stamps → IsSome asked × IsLate (next_stamp new.mark.log)
 
@@ -49,5 +51,6 @@ pub record HasCauseAt (means : Meanings) (reused : Type 0) (s : State) (last : �
     (e : Refusal) : Type 0 where
   pub asked : e ≡ refusal.Full → asked_reply means s last change ≡ Ok true
   pub room : reused → e ≡ refusal.Full → LacksRoom means s change old new
+  pub past : (reused → ⊥) → e ≡ refusal.Full → max_slots ≤ next_stamp new.mark.log
   pub busy : e ≡ refusal.Busy → reused
   pub stamps : e ≡ refusal.Stamps → IsLate (next_stamp new.mark.log)

@@ -11,7 +11,11 @@ use Rattle.head_word.specs.Books.{drawn}
 use Rattle.head_word.specs.Marks.{Known, others}
 use Rattle.answered.specs.Answered.{IsLinearized, IsAnswered, own_moves}
 use Rattle.answered.specs.Trying.{IsLost, IsWon}
-use Rattle.group_steps.specs.Proposing.{HasLast, asked_reply, change_asked}
+use Rattle.reader_claims.specs.declared.view.Sizes.{Sizes}
+use Rattle.reader_claims.specs.Seats.{kind_end}
+use Rattle.commit_graph.specs.Seats.{Seated}
+use Rattle.group_steps.specs.Leaving.{FreesFor, FreesNone}
+use Rattle.group_steps.specs.Proposing.{HasLast, asked_reply, change_asked, kind_for}
 use Rattle.group_steps.specs.declared.changing.Tried.{Tried}
 use Rattle.group_steps.specs.declared.changing.Tried.TheVariants as tried
 
@@ -32,10 +36,22 @@ AnswersTry means tries old new last change (Ok tried.Lost) = (own_moves new ≡ 
 AnswersTry means tries old new last change (Err e) = IsLinearized means tries old new (Err e) (change_asked change)
     (λ s. asked_reply means s last change)
 
--- the change that a try made
-abbrev pub change_tried : Change → Result Tried Refusal → Option Change
-change_tried change (Ok (tried.Made at)) = Some change
-change_tried change other = None
+-- What one try did to slots: where it was lost or refused it gave up one draft at most, else none.
+abbrev pub FreesTry : (ℕ → Type 0) → Change → Seated → Seated → Result Tried Refusal → Type 0
+FreesTry may change old new (Ok (tried.Made at)) = FreesFor may 0 old new change
+FreesTry may change old new (Ok tried.Same) = FreesNone may 0 old new
+FreesTry may change old new (Ok tried.Lost) = FreesNone may 1 old new
+FreesTry may change old new (Err e) = FreesNone may 1 old new
+
+-- the same of a change that was proposed: whether the head was moved
+abbrev pub FreesMove : (ℕ → Type 0) → Change → Seated → Seated → Result (Option Ref) Refusal → Type 0
+FreesMove may change old new (Ok (Some at)) = FreesFor may 0 old new change
+FreesMove may change old new (Ok None) = FreesNone may 1 old new
+FreesMove may change old new (Err e) = FreesNone may 1 old new
+
+-- a draft may take slots below the end of the kind that the change may take at the state
+abbrev pub EndsAt : Sizes → State → Change → ℕ → Type 0
+EndsAt sizes s change end = end ≡ kind_end sizes (kind_for s change)
 
 -- whether the change was made
 abbrev pub is_made : Option Ref → Bool

@@ -66,6 +66,13 @@ MayAsk cs before (Mutated x) = (last_at cs (stamp_of before.at) x.client ≡ Som
 MayAsk cs before (Pulled ticket r) = Unit {0}
 MayAsk cs before Closed = Unit {0}
 
+-- where a client's last id was found, after a call that asked for the change: for a mutation perhaps at another commit,
+-- by what is drawn now
+abbrev pub StaysFound : Contents → LastId → LastId → Change → Type 0
+StaysFound cs old new (Mutated x) = (last_at cs (stamp_of new.at) x.client ≡ Some new.id) × (new.id ≡ old.id)
+StaysFound cs old new (Pulled ticket r) = new ≡ old
+StaysFound cs old new Closed = new ≡ old
+
 -- A client of this ID and this last id may ask for this.
 abbrev pub AsksNext : Bytes → ℕ → Change → Type 0
 AsksNext client last (Mutated x) = (x.client ≡ client) × (x.id ≡ last + 1) × (x.reason ≡ Initial)

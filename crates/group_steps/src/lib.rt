@@ -10,8 +10,7 @@
 //! `HasCause`, and all that it does to slots, but for what it gives, `Frees`.
 //!
 //! Not proved: that the slot which a pull lets go for a node is the one where the node lies (the book names stamps, not
-//! slots); how many drafts a call gives up, in slots of which kind, and how many stamps it draws; that the draft for
-//! which no slot was found has no more chunks than its map needs.
+//! slots); that the draft for which no slot was found has no more chunks than its map needs.
 //!
 //! What is tried again is one function over the change, `make_change`, and no trait that each change meets: a method of
 //! a trait's block may not call a function at a bound that threads may share. What a pull leaves behind is listed

@@ -1,9 +1,9 @@
 //! A change that was proposed: what leads to it is placed, and the head is moved there.
 ghost use Rattle.std.specs.List.{Contains};
 ghost use Rattle.group_history.specs.declared.refusals.Refusal.TheVariants as refusal;
-ghost use Rattle.std.specs.Prelude.{◌≡◌, ◌≤◌, List, [], length, map, true, IfOk, IfErr, IfSome, IfNone, OnErr};
+ghost use Rattle.std.specs.Prelude.{◌≡◌, ◌≤◌, ◌++◌, List, [], length, map, true, IfOk, IfErr, IfSome, IfNone, OnErr};
 ghost use Rattle.group_history.specs.Record.{after_change};
-ghost use Rattle.group_history.specs.Refs.{slot_of, stamp_of};
+ghost use Rattle.group_history.specs.Refs.{max_slots, slot_of, stamp_of};
 ghost use Rattle.group_history.specs.Spelling.{Spells};
 ghost use Rattle.group_history.specs.State.{State};
 ghost use Rattle.head_word.specs.Books.{IsChangeFrom, drawn, next_stamp};
@@ -12,14 +12,15 @@ ghost use Rattle.reader_claims.specs.Seats.{kind_end};
 ghost use Rattle.map_chunks.specs.Drafts.{IsLate};
 ghost use Rattle.commit_graph.specs.Seats.{IsReading, IsSameSeat};
 ghost use Rattle.answered.specs.Answered.{IsLeft, is_resource_refusal};
-ghost use Rattle.answered.specs.Trying.{Ends, IsBase, IsLost, IsMove, IsWon};
+ghost use Rattle.head_word.specs.Marks.{own};
+ghost use Rattle.answered.specs.Trying.{Ends, IsBase, IsLost, IsMove, IsWon, added};
 ghost use Rattle.answered.specs.declared.trying.Published.TheVariants.{Won};
 ghost use Rattle.publishing.specs.Placed.{FoundNone};
 ghost use Rattle.publishing.specs.Retiring.{AreFreed, drafted};
-ghost use Rattle.group_steps.specs.Leaving.{AreLeft, Frees, FreesWhatIsLeft};
-ghost use Rattle.group_steps.specs.Changing.{is_made};
-ghost use Rattle.group_steps.specs.Missing.{IsMissedOrDry, map_ok};
-ghost use Rattle.group_steps.specs.Proposing.{MayMove, change_asked};
+ghost use Rattle.group_steps.specs.Leaving.{AreLeft, FreesWhatIsLeft};
+ghost use Rattle.group_steps.specs.Changing.{FreesMove};
+ghost use Rattle.group_steps.specs.Missing.{IsMissedOrDry};
+ghost use Rattle.group_steps.specs.Proposing.{MayMove};
 
 use crate::proposing::Proposal;
 use answered::Published;
@@ -68,6 +69,8 @@ fn exchange<M: Means, S: Store<M>>(
     ensures none { S.reused → seat.new.view.taken ≡ [] }
     ensures loads { S.reused → seat.old.view.epoch_loads ≤ seat.new.view.epoch_loads }
     ensures reached { S.reused → seat.old.view.reached ≤ seat.new.view.reached }
+    ensures own { IfOk result (λ published. own seat.new.mark
+        ≡ own seat.old.mark ++ added seat.old.mark.seat to.now.new to.now.change.now published) }
     ensures ends { IfOk result (Ends M.means seat.old.mark seat.new.mark to.now.base to.now.change.now) }
     ensures goes { IfOk result (λ published. published ≡ Won
         → IsMove seat.old.mark seat.new.mark to.now.base to.now.new to.now.change.now) }
@@ -107,11 +110,12 @@ pub fn move_head<M: Means, S: Store<M>>(
         × Spells M.means (drawn seat.new.mark.log) (stamp_of at) (after_change s change.now))) }
     ensures lost { IfOk result (λ new. IfNone new (IsLost seat.old.mark seat.new.mark proposal.base)) }
     ensures err { IfErr result (λ e. (is_resource_refusal e ≡ true) × IsLeft tries seat.old.mark seat.new.mark e) }
-    ensures frees { S.reused → Frees shared.now.table.sizes.slots seat.old seat.new
-        (change_asked change.now (map_ok is_made result)) }
+    ensures frees { S.reused → FreesMove (λ end. end ≡ kind_end shared.now.table.sizes proposal.kind) change.now
+        seat.old seat.new result }
     ensures full { S.reused → IfErr result (λ e. e ≡ refusal.Full
         → FoundNone seat.old.view seat.new.view (kind_end shared.now.table.sizes proposal.kind)
         (length proposal.draft.nodes)) }
+    ensures past { (S.reused → ⊥) → IfErr result (λ e. e ≡ refusal.Full → max_slots ≤ next_stamp seat.new.mark.log) }
     ensures busy { IfErr result (λ e. e ≡ refusal.Busy → S.reused) }
     ensures late { IfErr result (λ e. e ≡ refusal.Stamps → IsLate (next_stamp seat.new.mark.log)) }
 {

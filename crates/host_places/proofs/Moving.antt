@@ -75,7 +75,7 @@ left_place b taken new client is left gone =
 pub gave : (means : Meanings) (was : UnderWay) (client : ClientState)
     → ((c : ClientState) → BeganAs means ⊤ c was → Acts ⊤ c client × (client.last ≡ c.last)
     × (own_moves client.seat.mark ≡ own_moves c.seat.mark)
-    × (⊤ → Frees c.group.group.table.sizes.slots c.seat client.seat None))
+    × (⊤ → Frees (Some was.change) 0 c.seat client.seat None))
     → GaveUp means was client
 gave means was client left = λ c began.
     let h = left c began in record { acts = h.0; last = h.1; own = h.2; frees = h.3 tt }

@@ -12,7 +12,7 @@ use Rattle.group_history.specs.State.{State, last_id, made}
 use Rattle.answered.specs.Answered.{IsLinearized, no_change}
 use Rattle.answered.specs.Changes.{change_made, change_read}
 use Rattle.group_steps.specs.Causes.{HasCause}
-use Rattle.group_steps.specs.Leaving.{Frees}
+use Rattle.group_steps.specs.Leaving.{Frees, spared}
 use Rattle.pull_patch.specs.Grammar.{answer_to}
 use Rattle.rebase.specs.Asking.{change_wanted, end_bytes_reply}
 use Rattle.group_steps.specs.Missing.{IsStoreRefusal}
@@ -110,7 +110,7 @@ pub mutated : (means : Meanings) (v b : PlaceState) (client next : ClientState) 
     → Acts ⊤ client next
     → IfErr reply (HasCause means ⊤ client.last (Some (Mutated (made client.id (client.last + 1) name args time)))
     client.seat next.seat)
-    → Frees client.group.group.table.sizes.slots client.seat next.seat
+    → Frees (Some (Mutated (made client.id (client.last + 1) name args time))) (spared reply) client.seat next.seat
     (change_made (made client.id (client.last + 1) name args time) reply)
     → told_alone o ≡ tells id_told reply
     → ByClient (λ c. Mutates means c name args time) b (told_alone o) (with_client next v)
@@ -137,7 +137,8 @@ pub pull_ended : (means : Meanings) (v b : PlaceState) (client next : ClientStat
     (change_read kept.cookie (answer_to body))
     (λ s. end_bytes_reply s kept.cookie.text body) → next.last ≡ client.last → Acts ⊤ client next
     → IfErr reply (HasCause means ⊤ client.last (change_wanted kept.cookie (answer_to body)) client.seat next.seat)
-    → Frees client.group.group.table.sizes.slots client.seat next.seat (change_read kept.cookie (answer_to body) reply)
+    → Frees (change_wanted kept.cookie (answer_to body)) (spared reply) client.seat next.seat
+    (change_read kept.cookie (answer_to body) reply)
     → told_alone o ≡ tells ended_told reply
     → ByClient (λ c p. At (ticket_at p.tickets n) fault.NoTicket (λ k. Ends means c k body) p) b (told_alone o)
     (with_client next v)

@@ -20,7 +20,7 @@ use Rattle.answered.specs.Changes.{change_made, change_read}
 use Rattle.chunk_slots.specs.Seats.{IsIdle}
 use Rattle.commit_graph.specs.Seats.{HasLooked, Seated}
 use Rattle.group_steps.specs.Causes.{HasCause}
-use Rattle.group_steps.specs.Leaving.{Frees}
+use Rattle.group_steps.specs.Leaving.{Frees, spared}
 use Rattle.group_steps.specs.Missing.{IsMissedOrDry, IsStoreRefusal}
 use Rattle.rebase.specs.Asking.{change_wanted, end_bytes_reply}
 use Rattle.rebase.specs.Clients.{Acts, ClientState, Looks, Rests, Stays}
@@ -220,8 +220,8 @@ pub record Mutates (means : Meanings) (client : ClientState) (name args : Bytes)
   pub acts : Acts ⊤ client next
   pub cause : IfErr reply (HasCause means ⊤ client.last
       (Some (Mutated (made client.id (client.last + 1) name args time))) client.seat next.seat)
-  pub frees : Frees client.group.group.table.sizes.slots client.seat next.seat
-      (change_made (made client.id (client.last + 1) name args time) reply)
+  pub frees : Frees (Some (Mutated (made client.id (client.last + 1) name args time))) (spared reply) client.seat
+      next.seat (change_made (made client.id (client.last + 1) name args time) reply)
   pub told : t ≡ tells id_told reply
   pub left : after ≡ with_client next before
 
@@ -236,7 +236,7 @@ pub record Ends (means : Meanings) (client : ClientState) (kept : Ticket) (body 
   pub acts : Acts ⊤ client next
   pub cause : IfErr reply (HasCause means ⊤ client.last (change_wanted kept.cookie (answer_to body))
       client.seat next.seat)
-  pub frees : Frees client.group.group.table.sizes.slots client.seat next.seat
+  pub frees : Frees (change_wanted kept.cookie (answer_to body)) (spared reply) client.seat next.seat
       (change_read kept.cookie (answer_to body) reply)
   pub told : t ≡ tells ended_told reply
   pub left : after ≡ with_client next before

@@ -56,13 +56,14 @@ IsRunTold means (Some a) (Ok ran) = RunsAs (meaning_of means a.mutation a.start)
 IsRunTold means (Some a) (Err e) = ⊤
 IsRunTold means None said = ⊤
 
--- The call that began with this client was given up: it left the group as others did, and the client has its last id.
-pub record IsGivenUp (before after : ClientState) : Type 0 where
+-- The call that began with this client and asked for the change was given up: it left the group as others did, and the
+-- client has its last id.
+pub record IsGivenUp (change : Change) (before after : ClientState) : Type 0 where
   pub acts : Acts ⊤ before after
   pub last : after.last ≡ before.last
   pub own : own_moves after.seat.mark ≡ own_moves before.seat.mark
-  pub frees : Frees before.group.group.table.sizes.slots before.seat after.seat None
+  pub frees : Frees (Some change) 0 before.seat after.seat None
 
 -- whichever client it began with
 abbrev pub GaveUp : Meanings → UnderWay → ClientState → Type 0
-GaveUp means asking client = (c : ClientState) → BeganAs means ⊤ c asking → IsGivenUp c client
+GaveUp means asking client = (c : ClientState) → BeganAs means ⊤ c asking → IsGivenUp asking.change c client

@@ -1,13 +1,21 @@
 -- Slots that were let go, one after the other.
-use Rattle.std.proofs.Common.{◌≡◌, ℕ, ◌<◌, ◌≤◌, ◌+◌, ◌^◌, inl, inr, List, [], ◌∷◌, ◌++◌, length, ap, subst}
-use Rattle.std.proofs.Common.{arith}
+use Rattle.std.proofs.Common.{◌≡◌, ℕ, ◌<◌, ◌≤◌, ◌^◌, inl, inr, List, [], ◌∷◌, ◌++◌, length, refl, sym, ap, subst}
+use Rattle.std.proofs.Common.{◌∙◌, Option, append-nil, arith}
 use native.Mathlib.Decide.{dec_lt}
 use mathlib.Core.Logic.{dite}
 use Rattle.reader_claims.specs.Deeds as deed
 use Rattle.reader_claims.specs.Deeds.{Deed}
 use Rattle.reader_claims.specs.declared.view.View.{View}
 use Rattle.reader_claims.specs.Passes.{IsRetired}
-use Rattle.publishing.specs.Retiring.{AreFreed, AreLetGo, GivesUp, drafted, more, none}
+use Rattle.group_history.specs.declared.nodes.Child.{Child}
+use Rattle.group_history.specs.declared.nodes.Node.{Node}
+use Rattle.head_word.specs.Books.{drafted as drafted_by}
+use Rattle.head_word.specs.Marks.{Known, own}
+use Rattle.commit_graph.specs.Seats.{Seated}
+use Rattle.publishing.specs.Inside.Stacks.{AreBelow, HasTaken}
+use Rattle.publishing.specs.Retiring.{AreFreed, AreLetGo, GivenUp, GivesOneUp, GivesUp, IsGivenUp, drafted}
+use Rattle.publishing.proofs.Lying.{taken_below}
+use Rattle.publishing.proofs.Popping.{length_taken}
 
 -- and then more
 pub let_go_more : (slots r : ℕ) (is js : List ℕ) (xs ys zs : List Deed) → AreLetGo slots r is xs ys
@@ -51,9 +59,72 @@ freed_known slots reached later (i ∷ is) xs ys low freed = elim freed [
   | inr raised ↦ inr raised
 ]
 
-pub gives_up_known : (slots reached later : ℕ) (xs ys : List Deed) → reached ≤ later → GivesUp slots reached xs ys
-    → GivesUp slots later xs ys
-gives_up_known slots reached later xs ys low none = none
-gives_up_known slots reached later xs ys low (more between zs settled withdrawn before last) =
-    more between zs settled withdrawn (gives_up_known slots reached later xs between low before)
-    (freed_known slots reached later settled (drafted settled withdrawn between) zs low last)
+-- GIVING UP
+
+pub gives_up_known : (slots reached later : ℕ) (by : Option ℕ) (gs : List GivenUp) (xs zs : List Deed) → reached ≤ later
+    → GivesUp slots reached by gs xs zs → GivesUp slots later by gs xs zs
+gives_up_known slots reached later by [] xs zs low same = same
+gives_up_known slots reached later by (g ∷ gs) xs zs low (ys, one, rest) = (
+  ys,
+  record {
+    within = one.within;
+    drew = one.drew;
+    freed = freed_known slots reached later g.settled (drafted g.settled g.withdrawn xs) ys low one.freed;
+  },
+  gives_up_known slots reached later by gs ys zs low rest,
+)
+
+-- and then more of them
+pub gives_up_more : (slots reached : ℕ) (by : Option ℕ) (gs hs : List GivenUp) (xs ys zs : List Deed)
+    → GivesUp slots reached by gs xs ys → GivesUp slots reached by hs ys zs → GivesUp slots reached by (gs ++ hs) xs zs
+gives_up_more slots reached by [] hs xs ys zs same b = subst (λ (l : List Deed). GivesUp slots reached by hs l zs) same b
+gives_up_more slots reached by (g ∷ gs) hs xs ys zs (mid, one, rest) b =
+    (mid, one, gives_up_more slots reached by gs hs mid ys zs rest b)
+
+-- a draft of which no stamp was drawn: its slots were withdrawn
+pub gives_unplaced : (slots end count : ℕ) (xs : List Deed) (old new : Seated) (back : List ℕ) → length back ≤ count
+    → AreBelow end back → new.view.deeds ≡ drafted [] back xs → own new.mark ≡ own old.mark
+    → GivesOneUp slots end count xs old new
+gives_unplaced slots end count xs old new back few low did same = record {
+  given = record { end = end; settled = []; withdrawn = back; entries = [] };
+  ends = refl;
+  few = few;
+  up = record { within = low; drew = inl refl; freed = did };
+  own = same ∙ sym (append-nil (own old.mark));
+}
+
+-- and one whose stamps were drawn: what was settled of its slots was let go
+pub gives_placed : (slots end count : ℕ) (xs : List Deed) (v : View) (old new : Seated) (held : List ℕ) (first : ℕ)
+    (contents : List (Node Child)) → HasTaken v held → AreBelow end held → length held ≡ count
+    → length contents ≡ count → own new.mark ≡ own old.mark ++ drafted_by old.mark.seat first contents ∷ []
+    → (settled withdrawn : List ℕ) × (v.taken ≡ settled ++ withdrawn)
+    × AreFreed slots new.view.reached settled (drafted settled withdrawn xs) new.view.deeds
+    → GivesOneUp slots end count xs old new
+gives_placed slots end count xs v old new held first contents has below all each drew (settled, withdrawn, split, freed) =
+    let many = length_taken v held has in let whole = ap length split in record {
+      given = record {
+        end = end;
+        settled = settled;
+        withdrawn = withdrawn;
+        entries = drafted_by old.mark.seat first contents ∷ [];
+      };
+      ends = refl;
+      few = omega (arith, many, whole, all);
+      up = record {
+        within = subst (AreBelow end) split (taken_below end v held has below);
+        drew = inr (first, contents, omega (arith, many, whole, all, each), refl);
+        freed = freed;
+      };
+      own = drew;
+    }
+
+-- since the same was seen of the book
+pub gives_as : (slots end count : ℕ) (xs : List Deed) (old was new : Seated) → old.mark ≡ was.mark
+    → GivesOneUp slots end count xs old new → GivesOneUp slots end count xs was new
+gives_as slots end count xs old was new same g = record {
+  given = g.given;
+  ends = g.ends;
+  few = g.few;
+  up = subst (λ (m : Known). IsGivenUp slots new.view.reached m.seat g.given xs new.view.deeds) same g.up;
+  own = subst (λ (m : Known). own new.mark ≡ own m ++ g.given.entries) same g.own;
+}

@@ -7,9 +7,8 @@ use Rattle.group_history.specs.declared.nodes.Node.{Node}
 use Rattle.group_history.specs.declared.refs.Ref.{Ref}
 use Rattle.group_history.specs.Refs.{slot_of}
 use Rattle.group_history.specs.Spelling.{Contents}
-use Rattle.head_word.specs.declared.entry.Entry.{Entry}
 use Rattle.head_word.specs.Books as books
-use Rattle.head_word.specs.Marks.{Known}
+use Rattle.head_word.specs.Marks.{Known, own}
 use Rattle.map_chunks.specs.Drafts.{Drafted}
 use Rattle.reader_claims.specs.declared.view.View.{View}
 use Rattle.reader_claims.specs.Deeds.{Deed}
@@ -30,13 +29,11 @@ pub record IsPlaced (before after : Contents) (draft : Drafted) (refs : List Ref
   pub since : IsPrefix before earlier
   pub until : IsPrefix (earlier ++ drawn_as draft.first first draft.nodes) after
 
--- These references bear the stamps that the seat drew for one draft, in order, by an entry that it added to the book.
+-- The references bear the stamps that the seat drew for one draft, in order, by the one entry that it added to the book.
 pub record AreDrawnBy (old new : Known) (refs : List Ref) : Type 0 where
-  pub log : List Entry
   pub first : ℕ
   pub contents : List (Node Child)
-  pub since : IsPrefix old.log log
-  pub until : IsPrefix (log ++ books.drafted old.seat first contents ∷ []) new.log
+  pub own : own new ≡ own old ++ books.drafted old.seat first contents ∷ []
   pub stamps : AreFrom first refs
   pub count : length refs ≡ length contents
 

@@ -1,10 +1,16 @@
 -- What a draft does to slots, by all that its seat did: what it had done before is xs, and what it has done behind it ys,
 -- the newest first.
-use Rattle.std.specs.Prelude.{ℕ, ◌≡◌, ◌<◌, ◌≤◌, ◌⊎◌, ◌^◌, length, List, [], ◌∷◌, ◌++◌, map, reverse}
+use Rattle.std.specs.Prelude.{ℕ, ◌≡◌, ◌<◌, ◌≤◌, ◌⊎◌, ◌^◌, length, List, [], ◌∷◌, ◌++◌, map, reverse, Option}
+use Rattle.std.specs.List.{All, flat_map}
+use Rattle.group_history.specs.declared.nodes.Child.{Child}
+use Rattle.group_history.specs.declared.nodes.Node.{Node}
 use Rattle.group_history.specs.declared.refs.Ref.{Ref}
+use Rattle.head_word.specs.declared.entry.Entry.{Entry}
+use Rattle.head_word.specs.Books as books
+use Rattle.head_word.specs.Marks.{own}
 use Rattle.reader_claims.specs.Deeds as deed
 use Rattle.reader_claims.specs.Deeds.{Deed}
-use Rattle.reader_claims.specs.declared.view.View.{View}
+use Rattle.commit_graph.specs.Seats.{Seated}
 use Rattle.answered.specs.declared.trying.Published.{Published}
 use Rattle.answered.specs.declared.trying.Published.TheVariants as published
 
@@ -28,26 +34,47 @@ AreFreed slots reached [] xs ys = ys ≡ xs
 AreFreed slots reached (i ∷ is) xs ys = ((2 ^ 60 ≤ reached) × (ys ≡ xs))
     ⊎ ((r e : ℕ) × (r ≤ e) × AreLetGo slots r (i ∷ is) (deed.raised e ∷ xs) ys)
 
--- A draft of so many nodes was given up: no more slots were taken for it than it has nodes, and what was settled of them
--- was let go.
-pub record IsGivenUp (slots reached count : ℕ) (xs ys : List Deed) : Type 0 where
+-- What a seat did for a draft that it gave up: below this end it took slots, of which it settled some and withdrew the
+-- others, and by these entries of the book it drew stamps.
+pub record GivenUp : Type 0 where
+  pub end : ℕ
   pub settled : List ℕ
   pub withdrawn : List ℕ
-  pub few : length (settled ++ withdrawn) ≤ count
-  pub freed : AreFreed slots reached settled (drafted settled withdrawn xs) ys
+  pub entries : List Entry
 
--- Drafts were given up, one after the other, and nothing else was done: what was settled for each was let go, and what
--- else had been taken for it was withdrawn.
-pub data GivesUp (slots reached : ℕ) (xs : List Deed) : List Deed → Type 0 where
-  none : GivesUp slots reached xs xs
-  more : (ys zs : List Deed) (settled withdrawn : List ℕ) → GivesUp slots reached xs ys
-      → AreFreed slots reached settled (drafted settled withdrawn ys) zs → GivesUp slots reached xs zs
+-- the slots that were taken for it
+abbrev pub taken_for : GivenUp → List ℕ
+taken_for g = g.settled ++ g.withdrawn
 
--- From v to u the seat gave up drafts, and did nothing else to slots and to the epoch, of which it knows no less.
-pub record GivesBack (slots : ℕ) (v u : View) : Type 0 where
-  pub gave : GivesUp slots u.reached v.deeds u.deeds
-  pub loads : v.epoch_loads ≤ u.epoch_loads
-  pub reached : v.reached ≤ u.reached
+-- for so many nodes no stamps were drawn, or one for each, by one entry
+abbrev pub Draws : Option ℕ → ℕ → List Entry → Type 0
+Draws by count entries = (entries ≡ []) ⊎ ((first : ℕ) × (contents : List (Node Child)) × (length contents ≡ count)
+    × (entries ≡ books.drafted by first contents ∷ []))
+
+-- The seat had a slot for each node of which it drew the stamp, and let go what it had settled.
+pub record IsGivenUp (slots reached : ℕ) (by : Option ℕ) (g : GivenUp) (xs ys : List Deed) : Type 0 where
+  pub within : All (λ i. i < g.end) (taken_for g)
+  pub drew : Draws by (length (taken_for g)) g.entries
+  pub freed : AreFreed slots reached g.settled (drafted g.settled g.withdrawn xs) ys
+
+-- these drafts were given up, one after the other, and nothing else was done
+abbrev pub GivesUp : ℕ → ℕ → Option ℕ → List GivenUp → List Deed → List Deed → Type 0
+GivesUp slots reached by [] xs zs = zs ≡ xs
+GivesUp slots reached by (g ∷ gs) xs zs = (ys : List Deed) × IsGivenUp slots reached by g xs ys
+    × GivesUp slots reached by gs ys zs
+
+-- the entries that were added to the book for them
+abbrev pub entries_of : List GivenUp → List Entry
+entries_of gs = flat_map (λ g. g.entries) gs
+
+-- A draft of so many nodes was given up, since xs was done, and since `old` was seen of the book: no more slots below the
+-- end were taken for it than it has nodes.
+pub record GivesOneUp (slots end count : ℕ) (xs : List Deed) (old new : Seated) : Type 0 where
+  pub given : GivenUp
+  pub ends : given.end ≡ end
+  pub few : length (taken_for given) ≤ count
+  pub up : IsGivenUp slots new.view.reached old.mark.seat given xs new.view.deeds
+  pub own : own new.mark ≡ own old.mark ++ given.entries
 
 -- Of the references of a draft, and of those that the old head alone reaches, these are needed no more
 abbrev pub unneeded : Published → List Ref → List Ref → List Ref

@@ -5,7 +5,7 @@ ghost use Rattle.group_history.specs.Refs.{stamps};
 ghost use Rattle.group_history.specs.declared.refusals.Refusal.TheVariants as refusal;
 ghost use Rattle.head_word.specs.declared.entry.Entry.{Entry};
 ghost use Rattle.head_word.specs.Books.{next_stamp, drafted, drafted_from};
-ghost use Rattle.head_word.specs.Marks.{others};
+ghost use Rattle.head_word.specs.Marks.{others, own};
 ghost use Rattle.answered.specs.Answered.{own_moves};
 ghost use Rattle.map_chunks.specs.Drafts.{AreOrdered};
 ghost use Rattle.commit_graph.specs.Seats.{IsLater};
@@ -29,6 +29,9 @@ pub(crate) fn draw<M: Means>(
     requires order { AreOrdered from nodes.now }
     ensures later { IsLater mark.old mark.new }
     ensures own { own_moves mark.new ≡ own_moves mark.old }
+    ensures once { IfOk result (λ first. own mark.new
+        ≡ own mark.old ++ drafted mark.old.seat first (drafted_from from nodes.now) ∷ []) }
+    ensures nothing { IfErr result (λ _. own mark.new ≡ own mark.old) }
     ensures drawn { IfOk result (λ first. (log : List Entry) × IsPrefix mark.old.log log × (next_stamp log ≡ first)
         × (mark.new.log ≡ log ++ drafted mark.old.seat first (drafted_from from nodes.now) ∷ [])) }
     ensures room { IfOk result (λ first. first + length nodes.now < stamps) }

@@ -1,10 +1,11 @@
 //! What becomes of a draft that was placed: the head is moved to it, or it is given up.
-ghost use Rattle.std.specs.Prelude.{◌≡◌, ◌≤◌, List, [], map};
+ghost use Rattle.std.specs.Prelude.{◌≡◌, ◌≤◌, ◌++◌, List, [], map};
 ghost use Rattle.std.specs.List.{All, Contains};
 ghost use Rattle.group_history.specs.Refs.{slot_of, stamp_of};
 ghost use Rattle.head_word.specs.Books.{drawn, IsChangeFrom};
 ghost use Rattle.reader_claims.specs.Deeds.{Deed};
-ghost use Rattle.answered.specs.Trying.{Ends, IsMove};
+ghost use Rattle.head_word.specs.Marks.{own};
+ghost use Rattle.answered.specs.Trying.{Ends, IsMove, added};
 ghost use Rattle.answered.specs.declared.trying.Published.TheVariants as published;
 ghost use Rattle.commit_graph.specs.Reach.{IsDropped};
 ghost use Rattle.commit_graph.specs.Seats.{IsSeatOf, IsSameSeat};
@@ -47,6 +48,8 @@ pub fn publish_draft<M: Means, S: Slots<M>>(
     ensures ends { Ends M.means seat.old.mark seat.new.mark to.now.base to.now.change.now result }
     ensures goes { result ≡ published.Won
         → IsMove seat.old.mark seat.new.mark to.now.base to.now.new to.now.change.now }
+    ensures own { own seat.new.mark
+        ≡ own seat.old.mark ++ added seat.old.mark.seat to.now.new to.now.change.now result }
     ensures none { S.reused → seat.new.view.taken ≡ [] }
     ensures loads { S.reused → seat.old.view.epoch_loads ≤ seat.new.view.epoch_loads }
     ensures reached { S.reused → seat.old.view.reached ≤ seat.new.view.reached }

@@ -1,7 +1,7 @@
 //! A draft's nodes in their slots.
 ghost use Rattle.std.specs.Prelude.{ℕ, ◌≡◌, ◌⊎◌, ◌+◌, ◌<◌, ◌≤◌, ◌++◌, ◌∷◌, List, [], map, max, reverse, true, IfOk, IfErr};
 ghost use Rattle.std.specs.Prelude.{OnOk, OnErr, length};
-ghost use Rattle.group_history.specs.Refs.{stamp_of, slot_of, stamps};
+ghost use Rattle.group_history.specs.Refs.{max_slots, stamp_of, slot_of, stamps};
 ghost use Rattle.group_history.specs.declared.refs.Ref.{Ref as Reference};
 ghost use Rattle.group_history.specs.declared.refusals.Refusal.TheVariants as refusal;
 ghost use Rattle.head_word.specs.Books.{next_stamp, drawn};
@@ -19,7 +19,7 @@ ghost use Rattle.answered.specs.Answered.{own_moves, is_resource_refusal};
 ghost use Rattle.commit_graph.specs.Seats.{IsSeatOf, IsSameSeat, StaysHeld};
 ghost use Rattle.publishing.specs.Stamped.{AreFrom};
 ghost use Rattle.publishing.specs.Placed.{AreDrawnBy, IsPlaced, FoundNone, LieBelow};
-ghost use Rattle.publishing.specs.Retiring.{AreFreed, IsGivenUp, drafted};
+ghost use Rattle.publishing.specs.Retiring.{AreFreed, GivesOneUp, drafted};
 ghost use Rattle.publishing.specs.Inside.Stacks.{AreBelow, HasTaken, StayBelow, Uses, UsesMore};
 ghost use Rattle.publishing.specs.Inside.Steps.{AreDrawn, AddsOne, MayRefuse, Steps};
 
@@ -66,6 +66,7 @@ fn place_one<M: Means, S: Store<M>>(
     ensures steps { S.reused → Steps (S.view seat.old) (S.view seat.new) }
     ensures same { OnErr result ((refs.new.items ≡ refs.old.items) × (seat.new ≡ seat.old)) }
     ensures err { IfErr result (MayRefuse S.reused) }
+    ensures past { IfErr result (λ e. e ≡ refusal.Full → max_slots ≤ to.now.first + length refs.old.items) }
 {
     let stamp = to.first + refs.len() as u64;
     let at = to.store.place(seat, to.mark, slot, stamp, node, to.tries)?;
@@ -100,6 +101,7 @@ fn place_next<M: Means, S: Store<M>>(
     ensures within { S.reused → StayBelow slots.old.items refs.old.items slots.new.items refs.new.items }
     ensures steps { S.reused → Steps (S.view seat.old) (S.view seat.new) }
     ensures err { IfErr result (MayRefuse S.reused) }
+    ensures past { IfErr result (λ e. e ≡ refusal.Full → max_slots ≤ to.now.first + length refs.old.items) }
 {
     let slot = pop(slots);
     let node = node.renamed(to.from, refs);
@@ -136,6 +138,7 @@ fn place_each<M: Means, S: Store<M>>(
     ensures within { S.reused → (end : ℕ) → AreBelow end slots.old.items → LieBelow end refs.new.items }
     ensures steps { S.reused → Steps (S.view seat.old) (S.view seat.new) }
     ensures err { IfErr result (MayRefuse S.reused) }
+    ensures past { IfErr result (λ e. e ≡ refusal.Full → max_slots ≤ to.now.first + length nodes.items) }
 {
     for node in nodes {
         place_next::<M, S>(to, seat, node, slots, refs)?;
@@ -169,6 +172,7 @@ fn place_all<M: Means, S: Store<M>>(
     ensures within { S.reused → (end : ℕ) → AreBelow end slots.old.items → LieBelow end refs.new.items }
     ensures steps { S.reused → Steps (S.view seat.old) (S.view seat.new) }
     ensures err { IfErr result (MayRefuse S.reused) }
+    ensures past { IfErr result (λ e. e ≡ refusal.Full → max_slots ≤ to.now.first + length nodes.items) }
 {
     refs.reserve(nodes.len())?;
     place_each::<M, S>(to, seat, nodes, slots, refs)
@@ -214,10 +218,12 @@ fn place_drawn<M: Means, S: Store<M>>(
     ensures within { S.reused → (end : ℕ) → AreBelow end slots.items
         → IfOk result (λ refs. LieBelow end refs.items) }
     ensures given { S.reused → (xs : List Deed) → (S.view seat.old).deeds ≡ map deed.took (S.view seat.old).taken ++ xs
-        → OnErr result (IsGivenUp (S.serves to.now.store.now).sizes.slots (S.view seat.new).reached
-        (length (S.view seat.old).taken) xs (S.view seat.new).deeds) }
+        → OnErr result ((settled withdrawn : List ℕ) × ((S.view seat.old).taken ≡ settled ++ withdrawn)
+        × AreFreed (S.serves to.now.store.now).sizes.slots (S.view seat.new).reached settled
+        (drafted settled withdrawn xs) (S.view seat.new).deeds) }
     ensures steps { S.reused → Steps (S.view seat.old) (S.view seat.new) }
     ensures err { IfErr result (MayRefuse S.reused) }
+    ensures past { IfErr result (λ e. e ≡ refusal.Full → max_slots ≤ to.now.first + length nodes.items) }
 {
     let mut slots = slots;
     let mut refs = Vec::new(alloc);
@@ -255,15 +261,16 @@ fn place_taken<M: Means, S: Store<M>>(
         → IfOk result (λ refs. seat.new.view.deeds ≡ drafted (map slot_of refs.items) [] xs) }
     ensures within { S.reused → (end : ℕ) → AreBelow end slots.items
         → IfOk result (λ refs. LieBelow end refs.items) }
-    ensures given { S.reused → (xs : List Deed) → seat.old.view.deeds ≡ map deed.took seat.old.view.taken ++ xs
-        → OnErr result (IsGivenUp shared.now.table.sizes.slots seat.new.view.reached (length draft.nodes) xs
-        seat.new.view.deeds) }
+    ensures given { S.reused → (xs : List Deed) (end : ℕ) → seat.old.view.deeds ≡ map deed.took seat.old.view.taken ++ xs
+        → AreBelow end slots.items → OnErr result (GivesOneUp shared.now.table.sizes.slots end (length draft.nodes) xs
+        seat.old seat.new) }
     ensures steps { S.reused → Steps seat.old.view seat.new.view }
     ensures moved { IfErr result
         (λ e. e ≡ refusal.Moved → others seat.old.mark + max 1 tries ≤ others seat.new.mark) }
     ensures stamps { IfErr result
         (λ e. e ≡ refusal.Stamps → stamps ≤ next_stamp seat.new.mark.log + length draft.nodes) }
     ensures late { IfErr result (λ e. e ≡ refusal.Stamps → IsLate (next_stamp seat.new.mark.log)) }
+    ensures past { IfErr result (λ e. e ≡ refusal.Full → max_slots ≤ next_stamp seat.new.mark.log) }
     ensures err { IfErr result
         (λ e. (e ≡ refusal.Moved) ⊎ ((e ≡ refusal.Stamps) ⊎ MayRefuse S.reused e)) }
 {
@@ -315,8 +322,8 @@ pub fn place_draft<M: Means, S: Store<M>>(
     ensures drafted { S.reused → IfOk result
         (λ refs. seat.new.view.deeds ≡ drafted (map slot_of refs.items) [] seat.old.view.deeds) }
     ensures within { S.reused → IfOk result (λ refs. LieBelow (kind_end shared.now.table.sizes kind) refs.items) }
-    ensures given { S.reused → OnErr result (IsGivenUp shared.now.table.sizes.slots seat.new.view.reached
-        (length draft.nodes) seat.old.view.deeds seat.new.view.deeds) }
+    ensures given { S.reused → OnErr result (GivesOneUp shared.now.table.sizes.slots
+        (kind_end shared.now.table.sizes kind) (length draft.nodes) seat.old.view.deeds seat.old seat.new) }
     ensures loads { S.reused → seat.old.view.epoch_loads ≤ seat.new.view.epoch_loads }
     ensures reached { S.reused → seat.old.view.reached ≤ seat.new.view.reached }
     ensures want { IfErr result (λ e. is_resource_refusal e ≡ true) }
@@ -328,6 +335,7 @@ pub fn place_draft<M: Means, S: Store<M>>(
     ensures full { S.reused → IfErr result
         (λ e. e ≡ refusal.Full → FoundNone seat.old.view seat.new.view (kind_end shared.now.table.sizes kind)
         (length draft.nodes)) }
+    ensures past { (S.reused → ⊥) → IfErr result (λ e. e ≡ refusal.Full → max_slots ≤ next_stamp seat.new.mark.log) }
     ensures err { IfErr result (λ e. (e ≡ refusal.NoMemory)
         ⊎ ((e ≡ refusal.Moved) ⊎ ((e ≡ refusal.Stamps) ⊎ ((e ≡ refusal.Full) ⊎ (S.reused × (e ≡ refusal.Busy)))))) }
 {

@@ -61,6 +61,7 @@ fn take_next<M: Means, S: Store<M>>(
         → AreBelow (kind_end (S.serves store.now).sizes kind) slots.new.items }
     ensures took { S.reused → OnOk result ((x : ℕ) × OnlyTakes (S.view seat.old) (S.view seat.new) (x ∷ [])) }
     ensures used { S.reused → OnErr result ((w : View) × (back : List ℕ) × (length back ≤ 1)
+        × AreBelow (kind_end (S.serves store.now).sizes kind) back
         × OnlyTakes (S.view seat.old) w back × Uses w [] back (S.view seat.new)) }
     ensures steps { S.reused → Steps (S.view seat.old) (S.view seat.new) }
     ensures full { S.reused → IfErr result
@@ -68,6 +69,7 @@ fn take_next<M: Means, S: Store<M>>(
         (kind_end (S.serves store.now).sizes kind)) }
     ensures none { S.reused → IfErr result
         (λ e. e ≡ refusal.Full → OnlyTakes (S.view seat.old) (S.view seat.new) []) }
+    ensures reused { IfErr result (λ e. e ≡ refusal.Full → S.reused) }
     ensures err { IfErr result (λ e. (e ≡ refusal.NoMemory) ⊎ (e ≡ refusal.Full)) }
 {
     let Some(slot) = store.take_slot(seat, kind) else {
@@ -98,6 +100,7 @@ fn take_more<M: Means, S: Store<M>>(
         → AreBelow (kind_end (S.serves store.now).sizes kind) slots.new.items }
     ensures took { S.reused → OnOk result ((taken : List ℕ) × OnlyTakes (S.view seat.old) (S.view seat.new) taken) }
     ensures used { S.reused → OnErr result ((w : View) × (taken back : List ℕ) × (length back ≤ 1)
+        × AreBelow (kind_end (S.serves store.now).sizes kind) back
         × OnlyTakes (S.view seat.old) w taken × Uses w [] back (S.view seat.new)) }
     ensures steps { S.reused → Steps (S.view seat.old) (S.view seat.new) }
     ensures full { S.reused → IfErr result
@@ -105,6 +108,7 @@ fn take_more<M: Means, S: Store<M>>(
         (kind_end (S.serves store.now).sizes kind)) }
     ensures none { S.reused → IfErr result
         (λ e. e ≡ refusal.Full → (taken : List ℕ) × OnlyTakes (S.view seat.old) (S.view seat.new) taken) }
+    ensures reused { IfErr result (λ e. e ≡ refusal.Full → S.reused) }
     ensures err { IfErr result (λ e. (e ≡ refusal.NoMemory) ⊎ (e ≡ refusal.Full)) }
 {
     for held in 0..count {
@@ -131,11 +135,13 @@ pub(crate) fn take_all<M: Means, S: Store<M>>(
     ensures none { S.reused → OnErr result ((S.view seat.new).taken ≡ []) }
     ensures took { S.reused → OnOk result (OnlyTakes (S.view seat.old) (S.view seat.new) (S.view seat.new).taken) }
     ensures given { S.reused → OnErr result ((back : List ℕ) × (length back ≤ count)
+        × AreBelow (kind_end (S.serves store.now).sizes kind) back
         × ((S.view seat.new).deeds ≡ drafted [] back (S.view seat.old).deeds)) }
     ensures steps { S.reused → Steps (S.view seat.old) (S.view seat.new) }
     ensures full { S.reused → IfErr result
         (λ e. e ≡ refusal.Full → FoundNone (S.view seat.old) (S.view seat.new)
         (kind_end (S.serves store.now).sizes kind) count) }
+    ensures reused { IfErr result (λ e. e ≡ refusal.Full → S.reused) }
     ensures err { IfErr result (λ e. (e ≡ refusal.NoMemory) ⊎ (e ≡ refusal.Full)) }
 {
     let mut slots = Vec::with_capacity(alloc, count)?;

@@ -195,30 +195,30 @@ in_turn means tries old new (Err e) change right later alone is = by (change (Er
 -- LISTS OF CALLS
 
 -- calls only add to what their caller has seen
-calls_later : (means : Meanings) (reused : Type 0) (tries slots : ℕ) (c : Caller) (old : Seated) (xs : List Call)
+calls_later : (means : Meanings) (reused : Type 0) (tries : ℕ) (c : Caller) (old : Seated) (xs : List Call)
     (rs : List (Result Replied Refusal)) (new : Seated) (end : Caller)
-    → AreAnswered means reused tries slots c old xs rs new end → IsLater old.mark new.mark
-calls_later means reused tries slots c old [] [] new end all = subst (λ (s : Seated). IsLater old.mark s.mark) (sym all.0)
+    → AreAnswered means reused tries c old xs rs new end → IsLater old.mark new.mark
+calls_later means reused tries c old [] [] new end all = subst (λ (s : Seated). IsLater old.mark s.mark) (sym all.0)
     (later-self old.mark)
-calls_later means reused tries slots c old [] (r ∷ rs) new end all = absurd all
-calls_later means reused tries slots c old (x ∷ xs) [] new end all = absurd all
-calls_later means reused tries slots c old (x ∷ xs) (r ∷ rs) new end all =
+calls_later means reused tries c old [] (r ∷ rs) new end all = absurd all
+calls_later means reused tries c old (x ∷ xs) [] new end all = absurd all
+calls_later means reused tries c old (x ∷ xs) (r ∷ rs) new end all =
     later-trans old.mark all.0.mark new.mark all.1.seat.later
-    (calls_later means reused tries slots (caller_after c r) all.0 xs rs new end all.2)
+    (calls_later means reused tries (caller_after c r) all.0 xs rs new end all.2)
 
 -- Where no other seat moved the head between the first call and the last, none did so in any of them.
-pub alone_replies : (means : Meanings) (reused : Type 0) (tries slots : ℕ) (c : Caller) (old : Seated) (xs : List Call)
+pub alone_replies : (means : Meanings) (reused : Type 0) (tries : ℕ) (c : Caller) (old : Seated) (xs : List Call)
     (rs : List (Result Replied Refusal)) (new : Seated) (end : Caller)
-    → AreAnswered means reused tries slots c old xs rs new end
+    → AreAnswered means reused tries c old xs rs new end
     → IsAlone old.mark new.mark
     → AreReplies means c (after (record_of old.mark.log)) xs rs (after (record_of new.mark.log)) end
-alone_replies means reused tries slots c old [] [] new end all alone =
+alone_replies means reused tries c old [] [] new end all alone =
     (ap (λ (s : Seated). after (record_of s.mark.log)) all.0, all.1)
-alone_replies means reused tries slots c old [] (r ∷ rs) new end all alone = absurd all
-alone_replies means reused tries slots c old (x ∷ xs) [] new end all alone = absurd all
-alone_replies means reused tries slots c old (x ∷ xs) (r ∷ rs) new end all alone =
+alone_replies means reused tries c old [] (r ∷ rs) new end all alone = absurd all
+alone_replies means reused tries c old (x ∷ xs) [] new end all alone = absurd all
+alone_replies means reused tries c old (x ∷ xs) (r ∷ rs) new end all alone =
     let mid = all.0 in
-    let rest = calls_later means reused tries slots (caller_after c r) mid xs rs new end all.2 in
+    let rest = calls_later means reused tries (caller_after c r) mid xs rs new end all.2 in
     let a = others_grow old.mark mid.mark all.1.seat.later in
     let b = others_grow mid.mark new.mark rest in
     let f : moves_of_others new.mark ≡ moves_of_others old.mark = alone in
@@ -228,26 +228,26 @@ alone_replies means reused tries slots c old (x ∷ xs) (r ∷ rs) new end all a
     all.1.answer in (
       turn.0,
       subst (λ s. AreReplies means (caller_after c r) s xs rs (after (record_of new.mark.log)) end) turn.1
-          (alone_replies means reused tries slots (caller_after c r) mid xs rs new end all.2 last),
+          (alone_replies means reused tries (caller_after c r) mid xs rs new end all.2 last),
     )
 
 -- one call more
-answered_more : (means : Meanings) (reused : Type 0) (tries slots : ℕ) (c : Caller) (old mid new : Seated) (xs : List Call)
+answered_more : (means : Meanings) (reused : Type 0) (tries : ℕ) (c : Caller) (old mid new : Seated) (xs : List Call)
     (rs : List (Result Replied Refusal)) (d : Caller) (x : Call) (r : Result Replied Refusal)
-    → AreAnswered means reused tries slots c old xs rs mid d → IsMade means reused tries slots d x r mid new
-    → AreAnswered means reused tries slots c old (xs ++ x ∷ []) (rs ++ r ∷ []) new (caller_after d r)
-answered_more means reused tries slots c old mid new [] [] d x r all made = (
+    → AreAnswered means reused tries c old xs rs mid d → IsMade means reused tries d x r mid new
+    → AreAnswered means reused tries c old (xs ++ x ∷ []) (rs ++ r ∷ []) new (caller_after d r)
+answered_more means reused tries c old mid new [] [] d x r all made = (
   new,
-  subst (λ (s : Seated). IsMade means reused tries slots c x r s new) all.0
-      (subst (λ (e : Caller). IsMade means reused tries slots e x r mid new) all.1 made),
+  subst (λ (s : Seated). IsMade means reused tries c x r s new) all.0
+      (subst (λ (e : Caller). IsMade means reused tries e x r mid new) all.1 made),
   (refl, ap (λ e. caller_after e r) all.1),
 )
-answered_more means reused tries slots c old mid new [] (q ∷ rs) d x r all made = absurd all
-answered_more means reused tries slots c old mid new (y ∷ xs) [] d x r all made = absurd all
-answered_more means reused tries slots c old mid new (y ∷ xs) (q ∷ rs) d x r all made = (
+answered_more means reused tries c old mid new [] (q ∷ rs) d x r all made = absurd all
+answered_more means reused tries c old mid new (y ∷ xs) [] d x r all made = absurd all
+answered_more means reused tries c old mid new (y ∷ xs) (q ∷ rs) d x r all made = (
   all.0,
   all.1,
-  answered_more means reused tries slots (caller_after c q) all.0 mid new xs rs d x r all.2 made,
+  answered_more means reused tries (caller_after c q) all.0 mid new xs rs d x r all.2 made,
 )
 
 map_more : {A B : Type 0} (f : A → B) (xs : List A) (x : A) → map f (xs ++ x ∷ []) ≡ map f xs ++ f x ∷ []
@@ -255,21 +255,21 @@ map_more f [] x = refl
 map_more f (y ∷ xs) x = ap (λ w. f y ∷ w) (map_more f xs x)
 
 -- a turn of the loop over the calls
-pub turn : (means : Meanings) (reused : Type 0) (tries slots : ℕ) (c d : Caller) (old mid new : Seated) (all : List Call)
+pub turn : (means : Meanings) (reused : Type 0) (tries : ℕ) (c d : Caller) (old mid new : Seated) (all : List Call)
     (i : ℕ) (x : Call) (rs news : List (Result Reply Refusal)) (r : Result Reply Refusal) → i < length all → x ≡ get_or all i x
-    → AreAnswered means reused tries slots c old (take i all) (map (map_ok reply_seen) rs) mid d
-    → IsMade means reused tries slots d x (map_ok reply_seen r) mid new → news ≡ rs ++ r ∷ []
-    → AreAnswered means reused tries slots c old (take (i + 1) all) (map (map_ok reply_seen) news) new
+    → AreAnswered means reused tries c old (take i all) (map (map_ok reply_seen) rs) mid d
+    → IsMade means reused tries d x (map_ok reply_seen r) mid new → news ≡ rs ++ r ∷ []
+    → AreAnswered means reused tries c old (take (i + 1) all) (map (map_ok reply_seen) news) new
     (caller_after d (map_ok reply_seen r))
-turn means reused tries slots c d old mid new all i x rs news r l q h made n =
+turn means reused tries c d old mid new all i x rs news r l q h made n =
     let front : take (i + 1) all ≡ take i all ++ x
     ∷ [] = take_more all i x l ∙ ap (λ w. take i all ++ w ∷ []) (sym q) in
     let back : map (map_ok reply_seen) news ≡ map (map_ok reply_seen) rs ++ map_ok reply_seen r
     ∷ [] = ap (map (map_ok reply_seen)) n ∙ map_more (map_ok reply_seen) rs r in
     let end = caller_after d (map_ok reply_seen r) in
-    subst (λ w. AreAnswered means reused tries slots c old w (map (map_ok reply_seen) news) new end) (sym front)
-    (subst (λ w. AreAnswered means reused tries slots c old (take i all ++ x ∷ []) w new end) (sym back)
-    (answered_more means reused tries slots c old mid new (take i all) (map (map_ok reply_seen) rs) d x
+    subst (λ w. AreAnswered means reused tries c old w (map (map_ok reply_seen) news) new end) (sym front)
+    (subst (λ w. AreAnswered means reused tries c old (take i all ++ x ∷ []) w new end) (sym back)
+    (answered_more means reused tries c old mid new (take i all) (map (map_ok reply_seen) rs) d x
     (map_ok reply_seen r) h made))
 
 -- the client after a call is the caller after its reply

@@ -1,5 +1,5 @@
 -- Why a call is refused for want of something, and what it retires.
-use Rattle.std.proofs.Common.{◌≡◌, ◌≤◌, inl, inr, ℕ, false, true≢false, Option, Some, None, Result, Ok, Err, sym, ap, ◌∙◌}
+use Rattle.std.proofs.Common.{◌≡◌, ◌≤◌, ◌+◌, inl, inr, ℕ, false, true≢false, Option, Some, None, Result, Ok, Err, sym, ap, subst, ◌∙◌}
 use Rattle.std.proofs.Common.{arith, refl}
 use Rattle.std.specs.Prelude.{IfErr}
 use mathlib.Core.List.{IsPrefix}
@@ -11,9 +11,10 @@ use Rattle.commit_graph.specs.Seats.{HasLooked, IsCalm, IsSameSeat, Seated}
 use Rattle.commit_graph.proofs.Seating.{seat-self, seat-trans}
 use Rattle.answered.specs.Answered.{is_resource_refusal}
 use Rattle.group_steps.specs.Causes.{HasCause}
-use Rattle.group_steps.specs.Leaving.{Frees}
-use Rattle.group_steps.specs.Missing.{IsMissedOrDry}
-use Rattle.group_steps.proofs.Giving.{cause_since, frees_since, gives_calm, gives_none}
+use Rattle.answered.proofs.Losing.{others_grow}
+use Rattle.group_steps.specs.Leaving.{Frees, FreesAnew, MayTake, spared}
+use Rattle.group_steps.specs.Missing.{IsMissedOrDry, map_ok}
+use Rattle.group_steps.proofs.Giving.{after_tries, cause_since, gives_calm, gives_none}
 
 -- CAUSES
 
@@ -22,6 +23,7 @@ pub cause_named : (means : Meanings) (reused : Type 0) (last : ℕ) (asked : Opt
     → is_resource_refusal e ≡ false → HasCause means reused last asked old new e
 cause_named means reused last asked old new e named = record {
   full = λ r is. absurd (true≢false (sym (ap is_resource_refusal is) ∙ named));
+  past = λ r is. absurd (true≢false (sym (ap is_resource_refusal is) ∙ named));
   busy = λ is. absurd (true≢false (sym (ap is_resource_refusal is) ∙ named));
   stamps = λ is. absurd (true≢false (sym (ap is_resource_refusal is) ∙ named));
 }
@@ -31,16 +33,19 @@ pub cause_missed : (means : Meanings) (reused : Type 0) (last : ℕ) (asked : Op
     → IsMissedOrDry reused e → HasCause means reused last asked old new e
 cause_missed means reused last asked old new e (inl dry) = record {
   full = λ r is. absurd (cc (sym dry ∙ is));
+  past = λ r is. absurd (cc (sym dry ∙ is));
   busy = λ is. absurd (cc (sym dry ∙ is));
   stamps = λ is. absurd (cc (sym dry ∙ is));
 }
 cause_missed means reused last asked old new e (inr (inl gone)) = record {
   full = λ r is. absurd (cc (sym gone ∙ is));
+  past = λ r is. absurd (cc (sym gone ∙ is));
   busy = λ is. absurd (cc (sym gone ∙ is));
   stamps = λ is. absurd (cc (sym gone ∙ is));
 }
 cause_missed means reused last asked old new e (inr (inr busy)) = record {
   full = λ r is. absurd (cc (sym busy.1 ∙ is));
+  past = λ r is. absurd (cc (sym busy.1 ∙ is));
   busy = λ is. busy.0;
   stamps = λ is. absurd (cc (sym busy.1 ∙ is));
 }
@@ -51,6 +56,7 @@ pub cause_anew : (means : Meanings) (reused : Type 0) (last : ℕ) (asked : Opti
     → HasCause means reused last asked mid new e → HasCause means reused last asked old new e
 cause_anew means reused last None old mid new e pre table before h = record {
   full = h.full;
+  past = h.past;
   busy = h.busy;
   stamps = h.stamps;
 }
@@ -64,12 +70,35 @@ if_err_then P Q (Err e) p f = f e p
 
 -- WHAT A CALL RETIRES
 
--- a seat that did nothing to slots
-pub frees_none : (slots : ℕ) (old new : Seated) → IsCalm old.view new.view → Frees slots old new None
-frees_none slots old new calm = gives_calm slots old.view new.view calm
+-- a refusal is one, whatever else is told
+pub spared_told : {X Y : Type 0} (f : X → Y) (r : Result X Refusal) → spared (map_ok f r) ≡ spared r
+spared_told f (Ok x) = refl
+spared_told f (Err e) = refl
 
-pub frees_self : (slots : ℕ) (old : Seated) → Frees slots old old None
-frees_self slots old = gives_none slots old.view
+-- a seat that only looked
+pub frees_none : (reused : Type 0) (asked : Option Change) (spare : ℕ) (old new : Seated) → HasLooked reused old new
+    → reused → Frees asked spare old new None
+frees_none reused asked spare old new looked r = (
+  0,
+  omega (arith, others_grow old.mark new.mark looked.seat.later.seen looked.seat.later.seat),
+  gives_calm (MayTake old.table.sizes asked old.mark new.mark) old new looked.own (looked.calm r),
+)
+
+pub frees_self : (asked : Option Change) (old : Seated) → FreesAnew asked old old None
+frees_self asked old = (0, gives_none (MayTake old.table.sizes asked old.mark old.mark) old)
+
+-- what was told of a value in other words
+pub frees_told : {X Y : Type 0} (f : X → Y) (asked : Option Change) (old new : Seated) (r : Result X Refusal)
+    (reply : Result Y Refusal) (o p : Option Change) → reply ≡ map_ok f r → o ≡ p
+    → Frees asked (spared r) old new o → Frees asked (spared reply) old new p
+frees_told f asked old new r reply o p is same frees =
+    subst (λ (n : ℕ). Frees asked n old new p) (sym (ap spared is ∙ spared_told f r))
+    (subst (Frees asked (spared r) old new) same frees)
+
+-- more may be spared
+pub frees_more : (asked : Option Change) (less more : ℕ) (old new : Seated) (o : Option Change) → less ≤ more
+    → Frees asked less old new o → Frees asked more old new o
+frees_more asked less more old new o low (n, few, f) = (n, omega (arith, few, low), f)
 
 pub calm_calm : (v w u : View) → IsCalm v w → IsCalm w u → IsCalm v u
 calm_calm v w u a b = record {
@@ -95,10 +124,11 @@ looked_self reused old = record {
 }
 
 -- an earlier part of the call made no change
-pub frees_anew : (slots : ℕ) (old mid new : Seated) (o : Option Change) → IsSameSeat old mid → Frees slots old mid None
-    → Frees slots mid new o → Frees slots old new o
-frees_anew slots old mid new o same gave frees =
-    frees_since slots old mid new o same gave frees
+pub frees_anew : (asked : Option Change) (spare : ℕ) (old mid new : Seated) (o : Option Change) → IsSameSeat old mid
+    → IsSameSeat mid new → FreesAnew asked old mid None → Frees asked spare mid new o → FreesAnew asked old new o
+frees_anew asked spare old mid new o first then (n, gave) (m, few, frees) =
+    (n + m, after_tries old mid new asked n m o first then gave frees)
 
-pub frees_loads : (slots : ℕ) (old new : Seated) → Frees slots old new None → old.view.epoch_loads ≤ new.view.epoch_loads
-frees_loads slots old new gave = gave.loads
+pub frees_loads : (asked : Option Change) (old new : Seated) → FreesAnew asked old new None
+    → old.view.epoch_loads ≤ new.view.epoch_loads
+frees_loads asked old new (n, gave) = gave.back.loads

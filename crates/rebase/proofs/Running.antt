@@ -1,5 +1,5 @@
 -- A change whose mutators the caller runs: how its call ends.
-use Rattle.std.proofs.Common.{◌≡◌, inl, inr, ℕ, ◌+◌, ◌∷◌, List, [], Option, Some, None, Result, Ok, Err, refl, sym}
+use Rattle.std.proofs.Common.{◌≡◌, ◌≤◌, inl, inr, ℕ, ◌+◌, ◌∷◌, List, [], Option, Some, None, Result, Ok, Err, refl, sym}
 use Rattle.std.proofs.Common.{ap, subst, ◌∙◌, arith, reverse}
 use Rattle.std.specs.Prelude.{IfErr}
 use Rattle.group_history.specs.declared.changes.Change.{Change}
@@ -18,6 +18,7 @@ use Rattle.group_history.specs.Answers.{Refuses}
 use Rattle.group_history.specs.Cookies.{Cookie}
 use Rattle.group_history.specs.Map.{Bytes}
 use Rattle.group_history.specs.Meaning.{Meanings}
+use Rattle.group_history.specs.Pull.{Pull}
 use Rattle.group_history.specs.Mutating.{mutate_reply}
 use Rattle.group_history.specs.Pulling.{end_reply}
 use Rattle.group_history.specs.Record.{after}
@@ -26,16 +27,18 @@ use Rattle.group_history.specs.State.{State}
 use Rattle.head_word.specs.Books.{IsOpened, drawn, record_of}
 use Rattle.head_word.specs.Marks.{Known}
 use Rattle.pull_patch.specs.Grammar.{answer_to}
-use Rattle.reader_claims.specs.Seats.{ClaimsId}
 use Rattle.commit_graph.specs.Seats.{GroupId, IsSameSeat, Seated}
 use Rattle.chunk_slots.specs.Seats.{IsIdle}
 use Rattle.commit_graph.proofs.Seating.{seat-self, seat-trans}
 use Rattle.answered.specs.Answered.{IsLinearized, is_resource_refusal, no_change, own_moves}
 use Rattle.answered.specs.Changes.{change_applied, change_closing, change_made, change_read}
-use Rattle.group_steps.proofs.Giving.{gives_calm, gives_gives, gives_none}
+use mathlib.Core.List.{IsPrefix}
+use Rattle.answered.proofs.Losing.{others_grow}
+use Rattle.group_steps.proofs.Giving.{after_tries, gives_calm, gives_none}
+use Rattle.group_steps.specs.Arriving.{when_seen}
 use Rattle.group_steps.specs.Causes.{HasCause}
 use Rattle.group_steps.specs.Changing.{ended_as, is_made}
-use Rattle.group_steps.specs.Leaving.{Frees}
+use Rattle.group_steps.specs.Leaving.{Frees, MayTake, spared}
 use Rattle.group_steps.specs.Missing.{map_ok}
 use Rattle.group_steps.specs.Proposing.{asked_reply, change_asked}
 use Rattle.group_steps.proofs.Making.{wanting}
@@ -51,7 +54,7 @@ use Rattle.asked_steps.specs.declared.trying.Progress.TheVariants as progress
 use Rattle.rebase.specs.Asked.{Tells}
 use Rattle.rebase.specs.Asking.{change_wanted, end_bytes_reply}
 use Rattle.rebase.specs.Calls.{ended_in}
-use Rattle.rebase.specs.Clients.{Acts, ClientState, Grouped, IsSameClient, Stays}
+use Rattle.rebase.specs.Clients.{Acts, ClientState, IsSameClient, Stays}
 use Rattle.rebase.specs.Inside.Made.{closing_ended, reply_made}
 use Rattle.rebase.specs.Inside.Shown.{IsShown, under_way}
 use Rattle.rebase.specs.Replies.{Replied, ended, id, reply_seen}
@@ -61,7 +64,7 @@ use Rattle.rebase.specs.declared.asking.Asked.{Asked}
 use Rattle.rebase.specs.declared.asking.Asked.TheVariants as asked
 use Rattle.rebase.specs.declared.calls.Reply.{Reply}
 use Rattle.rebase.proofs.CallLemmas.{answers_told, ended_shown, id_shown, why_told}
-use Rattle.rebase.proofs.Causing.{cause_missed, cause_named, frees_none}
+use Rattle.rebase.proofs.Causing.{cause_missed, cause_named, frees_more, frees_none}
 use Rattle.rebase.proofs.Telling.{closing_told, never_unknown, next_told, pull_told}
 use Rattle.rebase.proofs.Unread.{unread, unread_cause, unread_changes}
 
@@ -115,14 +118,24 @@ cause_replied means reused last Closed before new (Ok at) h =
     cause_named means reused last (Some Closed) before new refusal.StateNotFound refl
 cause_replied means reused last Closed before new (Err e) h = h
 
+-- what is told as a refusal may be a change that was made
+spared_replied : (last : ℕ) (c : Change) (made : Result (Option Ref) Refusal)
+    → spared made ≤ spared (reply_made last c made)
+spared_replied last (Mutated x) (Ok at) = omega arith
+spared_replied last (Mutated x) (Err e) = omega arith
+spared_replied last (Pulled t r) (Ok at) = omega arith
+spared_replied last (Pulled t r) (Err e) = omega arith
+spared_replied last Closed (Ok at) = omega arith
+spared_replied last Closed (Err e) = omega arith
+
 -- the end of a call
 pub ends_call : (means : Meanings) (reused : Type 0) (tries : ℕ) (before new : ClientState) (c : Change) (cs : Contents)
-    (made : Result (Option Ref) Refusal) (reply : Result Replied Refusal) → before.seat.table ≡ before.group.group.table
+    (made : Result (Option Ref) Refusal) (reply : Result Replied Refusal)
     → reply ≡ reply_made before.last c made → IsFound cs c made
     → new.last ≡ last_called before.last c reply → Acts reused before new
     → IsEnded means reused tries before.seat new.seat before.last c made
     → EndsCall means reused tries before new c reply
-ends_call means reused tries before new c cs made reply table is found last acts e =
+ends_call means reused tries before new c cs made reply is found last acts e =
     let told = change_told means tries before.seat.mark new.seat.mark before.last c made e.answer in
     let same = replied_same means tries before.seat.mark new.seat.mark before.last c cs made found e.answer in
     subst (EndsCall means reused tries before new c) (sym is) (record {
@@ -130,20 +143,20 @@ ends_call means reused tries before new c cs made reply table is found last acts
       last = subst (λ (r : Result Replied Refusal). new.last ≡ last_called before.last c r) is last;
       acts = acts;
       cause = cause_replied means reused before.last c before.seat new.seat made e.cause;
-      frees = λ r. subst (λ (t : ClaimsId). Frees t.sizes.slots before.seat new.seat
-          (change_replied c (reply_made before.last c made))) table
-          (subst (Frees before.seat.table.sizes.slots before.seat new.seat) same (e.frees r));
+      frees = λ r. subst (Frees (Some c) (spared (reply_made before.last c made)) before.seat new.seat) same
+          (frees_more (Some c) (spared made) (spared (reply_made before.last c made)) before.seat new.seat
+          (change_asked c (map_ok is_made made)) (spared_replied before.last c made) (e.frees r));
     })
 
 -- THE RUNS
 
 -- a call that begins has lost no try
-pub since_self : (reused : Type 0) (seat : Seated) → IsSince reused seat 0 seat
-since_self reused seat = record {
+pub since_self : (reused : Type 0) (c : Change) (seat : Seated) → IsSince reused seat 0 c seat
+since_self reused c seat = record {
   same = seat-self seat;
   own = refl;
   others = omega arith;
-  gave = λ r. gives_none seat.table.sizes.slots seat.view;
+  gave = λ r. gives_none (MayTake seat.table.sizes (Some c) seat.mark seat.mark) seat;
 }
 
 judged_at : (means : Meanings) (cs : Contents) (s : State) (last : ℕ) (c : Change) (run : AskedRun) (u : UnderWay)
@@ -186,8 +199,8 @@ refused_call means reused tries before new c e none same dry stays mark = record
   last = stays.1 ∙ sym same;
   acts = record { client = stays.0.client; seat = stays.0.looked.seat; rests = stays.0.rests };
   cause = cause_missed means reused before.last (Some c) before.seat new.seat e (inl dry);
-  frees = λ r. subst (Frees before.group.group.table.sizes.slots before.seat new.seat) (sym none)
-      (frees_none before.group.group.table.sizes.slots before.seat new.seat (stays.0.looked.calm r));
+  frees = λ r. subst (Frees (Some c) 1 before.seat new.seat) (sym none)
+      (frees_none reused (Some c) 1 before.seat new.seat stays.0.looked r);
 }
 
 -- bytes that are no response
@@ -206,9 +219,9 @@ unread_call means reused tries before new k body e legal read stays mark =
       last = stays.1;
       acts = record { client = stays.0.client; seat = stays.0.looked.seat; rests = stays.0.rests };
       cause = unread_cause means reused before.last (change_wanted k (answer_to body)) before.seat new.seat body e read;
-      frees = λ r. subst (Frees before.group.group.table.sizes.slots before.seat new.seat)
+      frees = λ r. subst (Frees (change_wanted k (answer_to body)) 1 before.seat new.seat)
           (sym (unread_changes k body e read))
-          (frees_none before.group.group.table.sizes.slots before.seat new.seat (stays.0.looked.calm r));
+          (frees_none reused (change_wanted k (answer_to body)) 1 before.seat new.seat stays.0.looked r);
       looked = λ none. stays.0.looked;
     }
 
@@ -224,7 +237,22 @@ closed_ends means reused tries before new k body reply read e = record {
   acts = e.acts;
   cause = subst (λ (a : Result Response Refusal). IfErr reply (HasCause means reused before.last (change_wanted k a)
       before.seat new.seat)) (sym read) e.cause;
-  frees = subst (λ (a : Result Response Refusal). reused → Frees before.group.group.table.sizes.slots before.seat new.seat
+  frees = subst (λ (a : Result Response Refusal). reused → Frees (change_wanted k a) (spared reply) before.seat new.seat
+      (change_read k a (map_ok ended_in reply))) (sym read) e.frees;
+  looked = λ none. absurd (cc (sym none ∙ ap (change_wanted k) read));
+}
+
+pub pulled_ends : (means : Meanings) (reused : Type 0) (tries : ℕ) (before new : ClientState) (k : Cookie) (r : Pull)
+    (body : Bytes) (reply : Result Replied Refusal) → answer_to body ≡ Ok (response.Ok r)
+    → EndsCall means reused tries before new (Pulled k r) reply → EndsPull means reused tries before new k body reply
+pulled_ends means reused tries before new k r body reply read e = record {
+  answer = subst (λ (a : Result Response Refusal). IsLinearized means tries before.seat.mark new.seat.mark reply
+      (λ w. change_read k a (map_ok ended_in w)) (λ s. map_ok ended (a >>= end_reply s k.text))) (sym read) e.answer;
+  last = e.last;
+  acts = e.acts;
+  cause = subst (λ (a : Result Response Refusal). IfErr reply (HasCause means reused before.last (change_wanted k a)
+      before.seat new.seat)) (sym read) e.cause;
+  frees = subst (λ (a : Result Response Refusal). reused → Frees (change_wanted k a) (spared reply) before.seat new.seat
       (change_read k a (map_ok ended_in reply))) (sym read) e.frees;
   looked = λ none. absurd (cc (sym none ∙ ap (change_wanted k) read));
 }
@@ -248,9 +276,9 @@ unsupported_ends means reused tries before new k body kind r reply read is told 
       cause = subst (λ (a : Result Response Refusal). IfErr (map_ok ended r) (HasCause means reused before.last
           (change_wanted k a) before.seat new.seat)) (sym read) (why_told ended
           (HasCause means reused before.last None before.seat new.seat) r cause);
-      frees = subst (λ (a : Result Response Refusal). reused → Frees before.group.group.table.sizes.slots before.seat
-          new.seat (change_read k a (map_ok ended_in (map_ok ended r)))) (sym read)
-          (λ again. frees_none before.group.group.table.sizes.slots before.seat new.seat (stays.0.looked.calm again));
+      frees = subst (λ (a : Result Response Refusal). reused → Frees (change_wanted k a) (spared (map_ok ended r))
+          before.seat new.seat (change_read k a (map_ok ended_in (map_ok ended r)))) (sym read)
+          (λ again. frees_none reused None (spared (map_ok ended r)) before.seat new.seat stays.0.looked again);
       looked = λ none. stays.0.looked;
     })
 
@@ -294,16 +322,15 @@ pub go_end : (means : Meanings) (reused : Type 0) (tries : ℕ) (before client n
     → IsSameClient before client → client.last ≡ before.last → IsSameSeat before.seat client.seat
     → IsProgress means reused client.group.group client.seat tries client.last c p
     → TellsProgress means reused tries before.seat client.seat before.last c p
-    → client.seat.table ≡ client.group.group.table → reply ≡ reply_made client.last c made
+    → reply ≡ reply_made client.last c made
     → new.last ≡ last_called client.last c reply → new.seat ≡ client.seat → IsSameClient client new
     → EndsCall means reused tries before new c reply
-go_end means reused tries before client new c {M} p made reply is same last seat stands tells home told called here kept =
+go_end means reused tries before client new c {M} p made reply is same last seat stands tells told called here kept =
     let s = subst (λ (w : Progress M). IsProgress means reused client.group.group client.seat tries client.last c w) is
     stands in
     let t = subst (λ (w : Progress M). TellsProgress means reused tries before.seat client.seat before.last c w) is
     tells in
-    let table = sym seat.table ∙ home ∙ ap (λ (w : Grouped). w.group.table) same.0 in
-    ends_call means reused tries before new c (drawn client.seat.mark.log) made reply table
+    ends_call means reused tries before new c (drawn client.seat.mark.log) made reply
     (subst (λ (n : ℕ). reply ≡ reply_made n c made) last told) s.1
     (subst (λ (n : ℕ). new.last ≡ last_called n c reply) last called)
     (record {
@@ -315,11 +342,11 @@ go_end means reused tries before client new c {M} p made reply is same last seat
 
 -- nothing was changed
 pub given_up : (means : Meanings) (reused : Type 0) (before : ClientState) (u : UnderWay) (new : ClientState)
-    → BeganAs means reused before u → u.client.seat.table ≡ u.client.group.group.table → Stays reused u.client new
+    → BeganAs means reused before u → Stays reused u.client new
     → new.seat.mark ≡ u.client.seat.mark
     → Acts reused before new × (new.last ≡ before.last) × (own_moves new.seat.mark ≡ own_moves before.seat.mark)
-    × (reused → Frees before.group.group.table.sizes.slots before.seat new.seat None)
-given_up means reused before u new b home stays mark = (
+    × (reused → Frees (Some u.change) 0 before.seat new.seat None)
+given_up means reused before u new b stays mark = (
   record {
     client = (stays.0.client.0 ∙ b.client.0, stays.0.client.1 ∙ b.client.1);
     seat = seat-trans before.seat u.client.seat new.seat b.since.same stays.0.looked.seat;
@@ -327,10 +354,19 @@ given_up means reused before u new b home stays mark = (
   },
   stays.1 ∙ b.last,
   ap own_moves mark ∙ b.since.arrived.same,
-  λ r. subst (λ (t : ClaimsId). Frees t.sizes.slots before.seat new.seat None)
-      (sym b.since.same.table ∙ home ∙ ap (λ (w : Grouped). w.group.table) b.client.0)
-      (gives_gives before.seat.table.sizes.slots before.seat.view u.client.seat.view new.seat.view (b.since.gave r)
-      (gives_calm before.seat.table.sizes.slots u.client.seat.view new.seat.view (stays.0.looked.calm r))),
+  λ r. (
+    u.lost + 0,
+    omega (
+      arith,
+      b.since.others,
+      others_grow (when_seen before.seat.mark u.seen) new.seat.mark
+          (subst (λ (m : Known). IsPrefix u.seen m.log) (sym mark) b.since.arrived.since)
+          (stays.0.looked.seat.later.seat ∙ b.since.same.later.seat),
+    ),
+    after_tries before.seat u.client.seat new.seat (Some u.change) u.lost 0 None b.since.same stays.0.looked.seat
+        (b.since.gave r) (gives_calm (MayTake u.client.seat.table.sizes (Some u.change) u.client.seat.mark new.seat.mark)
+        u.client.seat new.seat stays.0.looked.own (stays.0.looked.calm r)),
+  ),
 )
 
 -- what is told where a call is refused before it did anything
@@ -356,6 +392,18 @@ unread_told means reused tries before k body e P (asked.Run u) legal read h = ab
 unread_told means reused tries before k body e P (asked.Ended client reply) legal read h =
     subst (EndsPull means reused tries before client k body) (sym (ap (map_ok reply_seen) h.0))
     (unread_call means reused tries before client k body e legal read h.1 h.2)
+
+-- what is told of a response without an error
+pub pulled_told_as : (means : Meanings) (reused : Type 0) (tries : ℕ) (before : ClientState) (k : Cookie) (r : Pull)
+    (body : Bytes) {M S T : Type 0} (a : Asked M S T) → answer_to body ≡ Ok (response.Ok r)
+    → Tells a (IsAsked means reused tries before (Pulled k r))
+    (λ client reply. EndsCall means reused tries before client (Pulled k r) (map_ok reply_seen reply))
+    → Tells a (λ u. (given : Pull) × (answer_to body ≡ Ok (response.Ok given))
+    × IsAsked means reused tries before (Pulled k given) u)
+    (λ client reply. EndsPull means reused tries before client k body (map_ok reply_seen reply))
+pulled_told_as means reused tries before k r body (asked.Run u) read h = (r, read, h)
+pulled_told_as means reused tries before k r body (asked.Ended client reply) read h =
+    pulled_ends means reused tries before client k r body (map_ok reply_seen reply) read h
 
 -- and where the server does not know the group
 pub closed_told_as : (means : Meanings) (reused : Type 0) (tries : ℕ) (before : ClientState) (k : Cookie) (body : Bytes)

@@ -1,6 +1,6 @@
 -- One answer told as another.
 use Rattle.std.proofs.Common.{◌≡◌, ℕ, ◌+◌, Bool, true, false, Option, Some, None, Result, Ok, Err, refl, sym}
-use Rattle.std.proofs.Common.{ap, subst}
+use Rattle.std.proofs.Common.{◌≤◌, ap, arith, subst}
 use Rattle.std.specs.Prelude.{nat_eq, if◌then◌else◌}
 use Rattle.group_history.specs.declared.changes.Change.{Change}
 use Rattle.group_history.specs.declared.changes.Change.TheVariants.{Mutated, Pulled, Closed}
@@ -23,10 +23,13 @@ use Rattle.head_word.specs.Books.{record_of}
 use Rattle.head_word.specs.Marks.{Known}
 use Rattle.answered.specs.Answered.{IsLinearized, IsPoint, IsRefused, is_resource_refusal}
 use Rattle.answered.specs.Changes.{change_applied, change_closing, change_made}
+use Rattle.commit_graph.specs.Seats.{Seated}
+use Rattle.group_steps.specs.Leaving.{Frees, spared}
 use Rattle.group_steps.specs.Missing.{map_ok}
 use Rattle.group_steps.specs.Changing.{ended_as, is_made}
 use Rattle.group_steps.specs.Proposing.{asked_reply, change_asked, closing_reply, is_applied}
 use Rattle.rebase.specs.Inside.Made.{closing_ended}
+use Rattle.rebase.proofs.Causing.{frees_more}
 
 -- a value
 answers_as : {X Y : Type 0} (means : Meanings) (tries : ℕ) (old new : Known) (x : X) (y : Y)
@@ -178,3 +181,44 @@ closing_told means tries old new last ticket (Err refusal.StateNotFound) is =
 closing_told means tries old new last ticket (Err e) is =
     refuses_as means tries old new e (change_asked Closed) change_closing (λ s. asked_reply means s last Closed)
     (λ s. end_reply s ticket response.StateNotFound) refl refl (λ s h. closed_before s.closed e h) is
+
+-- WHAT A REPLY STANDS FOR
+
+pub made_same : (means : Meanings) (tries : ℕ) (old new : Known) (last : ℕ) (x : Mutation)
+    (made : Result (Option Ref) Refusal) → IsLinearized means tries old new (map_ok is_made made) (change_asked
+    (Mutated x))
+    (λ s. asked_reply means s last (Mutated x))
+    → change_asked (Mutated x) (map_ok is_made made) ≡ change_made x (map_ok (λ at. last + 1) made)
+made_same means tries old new last x (Ok (Some at)) is = refl
+made_same means tries old new last x (Ok None) is = absurd (never_same means (after (record_of is.0)) last x is.2)
+made_same means tries old new last x (Err e) is = refl
+
+pub applied_same : (t : Cookie) (r : Pull) (made : Result (Option Ref) Refusal)
+    → change_asked (Pulled t r) (map_ok is_made made) ≡ change_applied t r (map_ok ended_as made)
+applied_same t r (Ok (Some at)) = refl
+applied_same t r (Ok None) = refl
+applied_same t r (Err e) = refl
+
+pub closing_same : (means : Meanings) (tries : ℕ) (old new : Known) (last : ℕ) (made : Result (Option Ref) Refusal)
+    → IsLinearized means tries old new (map_ok is_made made) (change_asked Closed) (λ s. asked_reply means s last Closed)
+    → change_asked Closed (map_ok is_made made) ≡ change_closing (closing_ended made)
+closing_same means tries old new last (Ok (Some at)) is = refl
+closing_same means tries old new last (Ok None) is = absurd (never_kept (after (record_of is.0)).closed is.2)
+closing_same means tries old new last (Err refusal.StateNotFound) is =
+    absurd (never_unknown (after (record_of is.0)).closed is.2)
+closing_same means tries old new last (Err e) is = refl
+
+-- what was done to slots, as it is told
+pub frees_closing : (means : Meanings) (tries : ℕ) (old new : Seated) (last : ℕ) (made : Result (Option Ref) Refusal)
+    → IsLinearized means tries old.mark new.mark (map_ok is_made made) (change_asked Closed)
+    (λ s. asked_reply means s last Closed)
+    → Frees (Some Closed) (spared made) old new (change_asked Closed (map_ok is_made made))
+    → Frees (Some Closed) (spared (closing_ended made)) old new (change_closing (closing_ended made))
+frees_closing means tries old new last made is frees =
+    frees_more (Some Closed) (spared made) (spared (closing_ended made)) old new (change_closing (closing_ended made))
+    (low made) (subst (Frees (Some Closed) (spared made) old new)
+    (closing_same means tries old.mark new.mark last made is) frees)
+  where
+    low : (w : Result (Option Ref) Refusal) → spared w ≤ spared (closing_ended w)
+    low (Ok at) = omega arith
+    low (Err e) = omega arith

@@ -22,7 +22,7 @@ use Rattle.answered.specs.Changes.{change_made, change_read, after_made}
 use Rattle.rebase.specs.Asking.{change_wanted, end_bytes_reply}
 use Rattle.commit_graph.specs.Seats.{HasLooked, IsSameSeat, Seated}
 use Rattle.group_steps.specs.Causes.{HasCause}
-use Rattle.group_steps.specs.Leaving.{Frees}
+use Rattle.group_steps.specs.Leaving.{Frees, spared}
 use Rattle.group_steps.specs.Missing.{IsMissedOrDry, map_ok}
 use Rattle.rebase.specs.Clients.{ClientState}
 use Rattle.rebase.specs.Queries.{asked_at}
@@ -116,26 +116,26 @@ abbrev pub MayRefuse : Type 0 → Call → Result Replied Refusal → Type 0
 MayRefuse reused x r = is_reading x ≡ true → IfErr r (IsMissedOrDry reused)
 
 -- One call of a list, by the caller's seat before and after it: the reply is right at a point of its own, whatever
--- others do meanwhile; why it was refused; and what it did to slots, of which the table has so many.
-pub record IsMade (means : Meanings) (reused : Type 0) (tries slots : ℕ) (c : Caller) (x : Call)
+-- others do meanwhile; why it was refused; and what it did to slots.
+pub record IsMade (means : Meanings) (reused : Type 0) (tries : ℕ) (c : Caller) (x : Call)
     (r : Result Replied Refusal) (old new : Seated) : Type 0 where
   pub seat : IsSameSeat old new
   pub answer : IsLinearized means tries old.mark new.mark r (change_of c x) (λ s. reply_to means c s x)
   pub refused : MayRefuse reused x r
   pub looked : is_reading x ≡ true → HasLooked reused old new
   pub cause : IfErr r (HasCause means reused c.last (change_for c x) old new)
-  pub frees : is_reading x ≡ false → reused → Frees slots old new (change_of c x r)
+  pub frees : is_reading x ≡ false → reused → Frees (change_for c x) (spared r) old new (change_of c x r)
 
 -- So is each call of the list. It begins with what the client's seat knew at the end of the call before, so its point is
 -- not before that of the other one.
-abbrev pub AreAnswered : Meanings → Type 0 → ℕ → ℕ → Caller → Seated → List Call → List (Result Replied Refusal)
+abbrev pub AreAnswered : Meanings → Type 0 → ℕ → Caller → Seated → List Call → List (Result Replied Refusal)
     → Seated → Caller → Type 0
-AreAnswered means reused tries slots c old [] [] new end = (new ≡ old) × (end ≡ c)
-AreAnswered means reused tries slots c old [] (r ∷ rs) new end = ⊥
-AreAnswered means reused tries slots c old (x ∷ xs) [] new end = ⊥
-AreAnswered means reused tries slots c old (x ∷ xs) (r ∷ rs) new end =
-    (mid : Seated) × IsMade means reused tries slots c x r old mid
-    × AreAnswered means reused tries slots (caller_after c r) mid xs rs new end
+AreAnswered means reused tries c old [] [] new end = (new ≡ old) × (end ≡ c)
+AreAnswered means reused tries c old [] (r ∷ rs) new end = ⊥
+AreAnswered means reused tries c old (x ∷ xs) [] new end = ⊥
+AreAnswered means reused tries c old (x ∷ xs) (r ∷ rs) new end =
+    (mid : Seated) × IsMade means reused tries c x r old mid
+    × AreAnswered means reused tries (caller_after c r) mid xs rs new end
 
 -- how often other seats have moved the head
 abbrev pub moves_of_others : Known → ℕ

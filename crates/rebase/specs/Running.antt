@@ -20,7 +20,7 @@ use Rattle.pull_patch.specs.Grammar.{answer_to}
 use Rattle.answered.specs.Changes.{change_applied, change_closing, change_made, change_read}
 use Rattle.commit_graph.specs.Seats.{HasLooked}
 use Rattle.group_steps.specs.Causes.{HasCause}
-use Rattle.group_steps.specs.Leaving.{Frees}
+use Rattle.group_steps.specs.Leaving.{Frees, spared}
 use Rattle.group_steps.specs.Missing.{map_ok}
 use Rattle.asked_steps.specs.Runs.{map_by, with_more}
 use Rattle.asked_steps.specs.Tries.{IsArrivedSince}
@@ -47,7 +47,7 @@ pub record UnderWay : Type 0 where
 pub record BeganAs (means : Meanings) (reused : Type 0) (before : ClientState) (asking : UnderWay) : Type 0 where
   pub client : IsSameClient before asking.client
   pub last : asking.client.last ≡ before.last
-  pub since : IsArrivedSince means reused before.seat asking.lost asking.seen asking.client.seat
+  pub since : IsArrivedSince means reused before.seat asking.lost asking.change asking.seen asking.client.seat
 
 -- So far as the change is judged at the state where the head was looked at: a mutation is its client's next one, at an
 -- open group, and is run on the map there; a pull is accepted.
@@ -125,7 +125,7 @@ pub record EndsCall (means : Meanings) (reused : Type 0) (tries : ℕ) (before a
   pub last : after.last ≡ last_called before.last change reply
   pub acts : Acts reused before after
   pub cause : IfErr reply (HasCause means reused before.last (Some change) before.seat after.seat)
-  pub frees : reused → Frees before.group.group.table.sizes.slots before.seat after.seat (change_replied change reply)
+  pub frees : reused → Frees (Some change) (spared reply) before.seat after.seat (change_replied change reply)
 
 -- And one that ends a pull with these bytes.
 pub record EndsPull (means : Meanings) (reused : Type 0) (tries : ℕ) (before after : ClientState) (ticket : Cookie)
@@ -137,6 +137,6 @@ pub record EndsPull (means : Meanings) (reused : Type 0) (tries : ℕ) (before a
   pub acts : Acts reused before after
   pub cause : IfErr reply (HasCause means reused before.last (change_wanted ticket (answer_to body)) before.seat
       after.seat)
-  pub frees : reused → Frees before.group.group.table.sizes.slots before.seat after.seat
+  pub frees : reused → Frees (change_wanted ticket (answer_to body)) (spared reply) before.seat after.seat
       (change_read ticket (answer_to body) (map_ok ended_in reply))
   pub looked : change_wanted ticket (answer_to body) ≡ None → HasLooked reused before.seat after.seat

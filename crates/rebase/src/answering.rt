@@ -12,7 +12,7 @@ ghost use Rattle.group_history.specs.State.{State};
 ghost use Rattle.head_word.specs.Books.{record_of};
 ghost use Rattle.answered.specs.Answered.{IsLinearized, no_change};
 ghost use Rattle.group_steps.specs.Causes.{HasCause};
-ghost use Rattle.group_steps.specs.Leaving.{Frees};
+ghost use Rattle.group_steps.specs.Leaving.{Frees, spared};
 ghost use Rattle.group_steps.specs.Missing.{IsMissedOrDry, map_ok};
 ghost use Rattle.rebase.specs.Calls.{Caller, IsAlone, AreAnswered, AreReplies, caller_of, change_for, change_of};
 ghost use Rattle.rebase.specs.Calls.{is_query, is_reading, last_after, reply_to};
@@ -89,8 +89,9 @@ impl<M: Mutators, S: Store<M>> Client<M, S> {
         ensures looks { is_reading call.entry ≡ true → Looks S.reused self.old self.new }
         ensures cause { IfErr result (HasCause M.means S.reused self.old.last (change_for (caller_of self.old) call.entry)
             self.old.seat self.new.seat) }
-        ensures frees { is_reading call.entry ≡ false → S.reused → Frees self.old.group.group.table.sizes.slots
-            self.old.seat self.new.seat (change_of (caller_of self.old) call.entry (map_ok reply_seen result)) }
+        ensures frees { is_reading call.entry ≡ false → S.reused → Frees (change_for (caller_of self.old) call.entry)
+            (spared result) self.old.seat self.new.seat
+            (change_of (caller_of self.old) call.entry (map_ok reply_seen result)) }
     {
         match call {
             Call::Refresh => self.refresh(tries).map(Reply::Id),
@@ -114,8 +115,8 @@ impl<M: Mutators, S: Store<M>> Client<M, S> {
         requires none { replies.old.items ≡ [] }
         requires room { length calls.now ≤ vec_capacity replies.old }
         requires rests { Rests S.reused self.old }
-        ensures answers { AreAnswered M.means S.reused tries self.old.group.group.table.sizes.slots (caller_of self.old)
-            self.old.seat calls.now (map (map_ok reply_seen) replies.new.items) self.new.seat (caller_of self.new) }
+        ensures answers { AreAnswered M.means S.reused tries (caller_of self.old) self.old.seat calls.now
+            (map (map_ok reply_seen) replies.new.items) self.new.seat (caller_of self.new) }
         ensures acts { Acts S.reused self.old self.new }
     {
         for call in calls {
@@ -135,9 +136,8 @@ impl<M: Mutators, S: Store<M>> Client<M, S> {
         tries: u32,
     ) -> Result<Vec<Result<Reply, Refusal>>, AllocError>
         ensures answers { IfOk result (λ replies. (rested : Seated) × HasLooked S.reused self.old.seat rested
-            × (rested.mark ≡ self.old.seat.mark) × AreAnswered M.means S.reused tries
-            self.old.group.group.table.sizes.slots (caller_of self.old) rested calls.now
-            (map (map_ok reply_seen) replies.items) self.new.seat (caller_of self.new)) }
+            × (rested.mark ≡ self.old.seat.mark) × AreAnswered M.means S.reused tries (caller_of self.old) rested
+            calls.now (map (map_ok reply_seen) replies.items) self.new.seat (caller_of self.new)) }
         ensures replies { IfOk result (λ replies. IsAlone self.old.seat.mark self.new.seat.mark
             → AreReplies M.means (caller_of self.old) (after (record_of self.old.seat.mark.log)) calls.now
             (map (map_ok reply_seen) replies.items) (after (record_of self.new.seat.mark.log)) (caller_of self.new)) }

@@ -395,7 +395,7 @@ impl<M: Means, S: Store<M>> Asking<M, S> {
         ensures left { (before : ClientState) → BeganAs M.means S.reused before self
             → Acts S.reused before result × (result.last ≡ before.last)
             × (own_moves result.seat.mark ≡ own_moves before.seat.mark)
-            × (S.reused → Frees before.group.group.table.sizes.slots before.seat result.seat None) }
+            × (S.reused → Frees (Some self.change) 0 before.seat result.seat None) }
     {
         let Asking {
             client,
@@ -419,7 +419,7 @@ impl<M: Means> Asking<M, Arena<M>> {
         ensures left { (before : ClientState) → BeganAs M.means ⊤ before self
             → Acts ⊤ before result × (result.last ≡ before.last)
             × (own_moves result.seat.mark ≡ own_moves before.seat.mark)
-            × Frees before.group.group.table.sizes.slots before.seat result.seat None }
+            × Frees (Some self.change) 0 before.seat result.seat None }
     {
         let Asking {
             client,

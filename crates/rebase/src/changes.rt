@@ -17,7 +17,7 @@ ghost use Rattle.pull_patch.specs.Grammar.{answer_to};
 ghost use Rattle.answered.specs.Answered.{IsLinearized, no_change};
 ghost use Rattle.answered.specs.Changes.{change_applied, change_closing, change_made, change_read};
 ghost use Rattle.group_steps.specs.Causes.{HasCause};
-ghost use Rattle.group_steps.specs.Leaving.{Frees};
+ghost use Rattle.group_steps.specs.Leaving.{Frees, FreesAnew, spared};
 ghost use Rattle.group_steps.specs.Missing.{map_ok};
 ghost use Rattle.group_steps.specs.Changing.{ended_as, is_made};
 ghost use Rattle.group_steps.specs.Proposing.{AsksNext, HasLast, asked_reply, change_asked};
@@ -33,7 +33,7 @@ use group_history::{
     Change, Cookie, Ended, Json, Means, Mutation, Mutators, PullOk, Ref, Refusal, Response, Text,
     VersionKind,
 };
-use group_steps::{Request, SharedGroup, closed_at, make_change};
+use group_steps::{SharedGroup, closed_at, make_change};
 use pull_patch::read_response;
 use std::sync::Wait;
 
@@ -120,19 +120,16 @@ impl<M: Mutators, S: Store<M>> Client<M, S> {
         ensures acts { Acts S.reused self.old self.new × (self.new.last ≡ self.old.last) }
         ensures cause { IfErr result (HasCause M.means S.reused self.old.last (Some change)
             self.old.seat self.new.seat) }
-        ensures frees { S.reused → Frees self.old.group.group.table.sizes.slots self.old.seat self.new.seat
+        ensures frees { S.reused → Frees (Some change) (spared result) self.old.seat self.new.seat
             (change_asked change (map_ok is_made result)) }
     {
-        let before = LastId {
+        let mut found = LastId {
             at: self.found,
             id: self.last,
         };
-        let request = Request {
-            change: &change,
-            before,
-        };
         self.pinned = false;
-        let made = make_change::<M, S>(&self.group, &mut self.seat, &request, tries);
+        let made = make_change::<M, S>(&self.group, &mut self.seat, &change, &mut found, tries);
+        self.found = found.at;
         drop(change);
         made
     }
@@ -160,7 +157,9 @@ impl<M: Mutators, S: Store<M>> Client<M, S> {
         ensures cause { IfErr result (HasCause M.means S.reused self.old.last
             (Some (Mutated (made self.old.id (self.old.last + 1) name.now args.now time)))
             self.old.seat self.new.seat) }
-        ensures frees { S.reused → Frees self.old.group.group.table.sizes.slots self.old.seat self.new.seat
+        ensures frees { S.reused → Frees
+            (Some (Mutated (made self.old.id (self.old.last + 1) name.now args.now time))) (spared result)
+            self.old.seat self.new.seat
             (change_made (made self.old.id (self.old.last + 1) name.now args.now time) result) }
     {
         let mutation = match Mutation::new(&self.id, self.last + 1, name, args, time) {
@@ -181,7 +180,7 @@ impl<M: Mutators, S: Store<M>> Client<M, S> {
         ensures acts { Acts S.reused self.old self.new × (self.new.last ≡ self.old.last) }
         ensures cause { IfErr result (HasCause M.means S.reused self.old.last (Some (Pulled ticket.now pull))
             self.old.seat self.new.seat) }
-        ensures frees { S.reused → Frees self.old.group.group.table.sizes.slots self.old.seat self.new.seat
+        ensures frees { S.reused → Frees (Some (Pulled ticket.now pull)) (spared result) self.old.seat self.new.seat
             (change_applied ticket.now pull result) }
     {
         match ticket.clone() {
@@ -201,8 +200,7 @@ impl<M: Mutators, S: Store<M>> Client<M, S> {
         ensures acts { Acts S.reused self.old self.new × (self.new.last ≡ self.old.last) }
         ensures cause { IfErr result (HasCause M.means S.reused self.old.last (Some Closed)
             self.old.seat self.new.seat) }
-        ensures frees { S.reused → Frees self.old.group.group.table.sizes.slots self.old.seat self.new.seat
-            (change_closing result) }
+        ensures frees { S.reused → Frees (Some Closed) (spared result) self.old.seat self.new.seat (change_closing result) }
     {
         match self.change(Change::Closed, tries) {
             Ok(_) => Err(Refusal::StateNotFound),
@@ -232,8 +230,8 @@ impl<M: Mutators, S: Store<M>> Client<M, S> {
         ensures acts { Acts S.reused self.old self.new × (self.new.last ≡ self.old.last) }
         ensures cause { IfErr result (HasCause M.means S.reused self.old.last (change_wanted ticket.now.cookie (answer_to body.now))
             self.old.seat self.new.seat) }
-        ensures frees { S.reused → Frees self.old.group.group.table.sizes.slots self.old.seat self.new.seat
-            (change_read ticket.now.cookie (answer_to body.now) result) }
+        ensures frees { S.reused → Frees (change_wanted ticket.now.cookie (answer_to body.now)) (spared result)
+            self.old.seat self.new.seat (change_read ticket.now.cookie (answer_to body.now) result) }
         ensures looked { change_wanted ticket.now.cookie (answer_to body.now) ≡ None
             → HasLooked S.reused self.old.seat self.new.seat }
     {
@@ -275,7 +273,8 @@ impl<M: Mutators, S: Store<M>> Client<M, S> {
         ensures cause { IfErr result (HasCause M.means S.reused self.old.last
             (Some (Mutated (made self.old.id (self.old.last + 1) name.now args.now time)))
             self.old.seat self.new.seat) }
-        ensures frees { S.reused → Frees self.old.group.group.table.sizes.slots self.old.seat self.new.seat
+        ensures frees { S.reused → FreesAnew
+            (Some (Mutated (made self.old.id (self.old.last + 1) name.now args.now time))) self.old.seat self.new.seat
             (change_made (made self.old.id (self.old.last + 1) name.now args.now time) result) }
     {
         for turn in rt.forever() {
@@ -303,8 +302,8 @@ impl<M: Mutators, S: Store<M>> Client<M, S> {
         ensures acts { Acts S.reused self.old self.new × (self.new.last ≡ self.old.last) }
         ensures cause { IfErr result (HasCause M.means S.reused self.old.last (change_wanted ticket.now.cookie (answer_to body.now))
             self.old.seat self.new.seat) }
-        ensures frees { S.reused → Frees self.old.group.group.table.sizes.slots self.old.seat self.new.seat
-            (change_read ticket.now.cookie (answer_to body.now) result) }
+        ensures frees { S.reused → FreesAnew (change_wanted ticket.now.cookie (answer_to body.now))
+            self.old.seat self.new.seat (change_read ticket.now.cookie (answer_to body.now) result) }
         ensures looked { change_wanted ticket.now.cookie (answer_to body.now) ≡ None
             → HasLooked S.reused self.old.seat self.new.seat }
     {

@@ -23,8 +23,6 @@
 //! pin. It can't be dropped: a drop of what is owned has no clause, so a body that left the pin would be proved. What was
 //! known when its call began is no data of the type, so its clauses hold of each client by which it began (`BeganAs`).
 //! That a run did what the group's meanings say is the one premise, and stands on `ran`.
-//!
-//! Not said: why `Full` comes over slots that only append.
 #![tactic(auto)]
 
 mod answering;

@@ -18,7 +18,7 @@ use Rattle.rebase.specs.declared.calls.Call.{Call}
 use Rattle.group_history.specs.declared.changes.Change.{Change}
 use Rattle.commit_graph.specs.Seats.{Seated}
 use Rattle.group_steps.specs.Causes.{HasCause}
-use Rattle.group_steps.specs.Leaving.{Frees}
+use Rattle.group_steps.specs.Leaving.{FreesAnew}
 use Rattle.rebase.specs.Clients.{ClientState, IsSameClient}
 use Rattle.group_steps.specs.Missing.{IsMissedOrDry, map_ok}
 use Rattle.rebase.specs.Queries.{gave}
@@ -81,13 +81,13 @@ cause_told f means c x y r reply old new call_is told_is is =
     (why_told f (HasCause means ⊤ c.last (change_for c y) old new) r is))
 
 -- what a call did to slots, by what is told of it
-pub frees_told : (slots : ℕ) (c : Caller) (x y : Call) (reply told : Result Replied Refusal) (o : Option Change)
-    (old new : Seated) → x ≡ y → reply ≡ told → change_of c y told ≡ o → Frees slots old new o
-    → Frees slots old new (change_of c x reply)
-frees_told slots c x y reply told o old new call_is told_is same frees =
-    subst (λ (w : Result Replied Refusal). Frees slots old new (change_of c x w)) (sym told_is)
-    (subst (λ (z : Call). Frees slots old new (change_of c z told)) (sym call_is)
-    (subst (Frees slots old new) (sym same) frees))
+pub frees_told : (c : Caller) (x y : Call) (reply told : Result Replied Refusal) (o : Option Change)
+    (old new : Seated) → x ≡ y → reply ≡ told → change_of c y told ≡ o → FreesAnew (change_for c y) old new o
+    → FreesAnew (change_for c x) old new (change_of c x reply)
+frees_told c x y reply told o old new call_is told_is same frees =
+    subst (λ (w : Result Replied Refusal). FreesAnew (change_for c x) old new (change_of c x w)) (sym told_is)
+    (subst (λ (z : Call). FreesAnew (change_for c z) old new (change_of c z told)) (sym call_is)
+    (subst (FreesAnew (change_for c y) old new) (sym same) frees))
 
 -- why a scan is refused
 pub missed_told : (means : Meanings) (last : ℕ) (rs : Rows) {X : Type 0} (r : Result X Refusal) (old new : Seated)

@@ -14,7 +14,7 @@ use Rattle.head_word.specs.Marks.{Known, known}
 use Rattle.answered.specs.Answered.{IsLinearized, no_change, own_moves}
 use Rattle.commit_graph.specs.Seats.{HasLooked, IsLater, Seated}
 use Rattle.group_steps.specs.Causes.{HasCause}
-use Rattle.group_steps.specs.Leaving.{Frees}
+use Rattle.group_steps.specs.Leaving.{FreesAnew}
 use Rattle.group_steps.specs.Missing.{IsMissedOrDry}
 use Rattle.rebase.specs.Asking.{is_passing}
 use Rattle.rebase.specs.Calls.{Caller, MayRefuse, caller, change_for, change_of, is_reading, last_after, reply_to}
@@ -28,13 +28,11 @@ use Rattle.rebase.specs.Watching.{Watched, poll_at, watch_after}
 abbrev pub Watches : Type 0
 Watches = finite.FinMap (slice_cmp nat_cmp) Watched
 
--- A client: whose requests its group writes, its ID, its own last id, its seat with what it has seen, its watches, and how
--- many slots its group has.
+-- A client: whose requests its group writes, its ID, its own last id, its seat with what it has seen, and its watches.
 pub record ClientState : Type 0 where
   pub caller : Caller
   pub seat : Seated
   pub watches : Watches
-  pub slots : ℕ
 
 -- it has a watch of this name, which has answered nothing yet; an earlier one is given up
 abbrev pub with_watch : Bytes → Scan → ClientState → ClientState
@@ -92,12 +90,11 @@ pub record MayReply (means : Meanings) (before : ClientState) (asked : Call) (re
   pub caller : after.caller ≡ caller before.caller.identity before.caller.client (last_after before.caller.last reply)
   pub later : IsLater before.seat.mark after.seat.mark
   pub watches : after.watches ≡ before.watches
-  pub slots : after.slots ≡ before.slots
   -- what it did to slots, and why a change is refused for want of something
   pub looked : is_reading asked ≡ true → HasLooked ⊤ before.seat after.seat
   pub cause : IfErr reply (HasCause means ⊤ before.caller.last (change_for before.caller asked) before.seat after.seat)
   pub frees : is_reading asked ≡ false
-      → Frees before.slots before.seat after.seat (change_of before.caller asked reply)
+      → FreesAnew (change_for before.caller asked) before.seat after.seat (change_of before.caller asked reply)
 
 -- The poll of a watch is answered rightly at a point of that record.
 pub record MayReplyToPoll (means : Meanings) (name : Bytes) (watch : Watched) (before : ClientState)
@@ -108,7 +105,6 @@ pub record MayReplyToPoll (means : Meanings) (name : Bytes) (watch : Watched) (b
   pub caller : after.caller ≡ before.caller
   pub later : IsLater before.seat.mark after.seat.mark
   pub watches : after.watches ≡ watches_after name watch before.watches reply
-  pub slots : after.slots ≡ before.slots
   pub looked : HasLooked ⊤ before.seat after.seat
 
 -- The client has seen what another one had seen too, and made no change.
@@ -118,5 +114,4 @@ pub record Learns (before : ClientState) (other : Known) (after : ClientState) :
   pub moves : own_moves after.seat.mark ≡ own_moves before.seat.mark
   pub caller : after.caller ≡ before.caller
   pub watches : after.watches ≡ before.watches
-  pub slots : after.slots ≡ before.slots
   pub looked : HasLooked ⊤ before.seat after.seat

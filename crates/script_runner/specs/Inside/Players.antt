@@ -20,7 +20,6 @@ standing_of c = record {
   caller = caller_of c.client;
   seat = c.client.seat;
   watches = c.watches;
-  slots = c.client.group.group.table.sizes.slots;
 }
 
 abbrev pub player_of : {M : Type 0} → ScriptClient M → Player

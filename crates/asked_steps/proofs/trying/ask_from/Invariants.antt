@@ -9,7 +9,7 @@ abbrev pub invariant-loop-tried : goal.invariant-loop-tried
 invariant-loop-tried g l = record {
   seat : IsSameSeat l.initial.seat l.seat;
   none : g.S.Slots.reused → l.seat.view.taken ≡ [];
-  since : (before : Seated) → IsSince g.S.Slots.reused before l.lost l.initial.seat
-      → IsSince g.S.Slots.reused before l.tried l.seat;
+  since : (before : Seated) → IsSince g.S.Slots.reused before l.lost l.request.change.now l.initial.seat
+      → IsSince g.S.Slots.reused before l.tried l.request.change.now l.seat;
   idle : 0 < l.tried → g.S.Slots.reused → IsIdle l.seat.view;
 }

@@ -20,21 +20,23 @@ pub returns-in-Run-clause-told : goal.returns-in-Run-clause-told
 returns-in-Run-clause-told g c before i =
     let means = g.M.Means.means in let reused = g.S.Slots.reused in let e = c.in-Ok.ensures in
     let a = c.in-Ok.arrival in
-    subst (λ (t : Seated). IsArrivedSince means reused before c.args.lost a.seen.log t) (sym c.in-Run.ensures.turn.0)
-    (arrived_since means reused before c.args.seat.now c.pin_and_load_both.new.seat c.args.lost a.seen.log a.base a.first
+    subst (λ (t : Seated). IsArrivedSince means reused before c.args.lost c.args.request.now.change.now
+    a.seen.log t) (sym c.in-Run.ensures.turn.0)
+    (arrived_since means reused before c.args.seat.now c.pin_and_load_both.new.seat c.args.lost
+    c.args.request.now.change.now a.seen.log a.base a.first
     i e.arrived e.looked)
 
 pub returns-in-Ended-clause-told : goal.returns-in-Ended-clause-told
 returns-in-Ended-clause-told g c before i =
     let e = c.in-Ok.ensures in let a = c.in-Ok.arrival in
     c.in-Ended.ensures.told before c.args.lost (arrived_since g.M.Means.means g.S.Slots.reused before c.args.seat.now
-    c.pin_and_load_both.new.seat c.args.lost a.seen.log a.base a.first i e.arrived e.looked)
+    c.pin_and_load_both.new.seat c.args.lost c.args.request.now.change.now a.seen.log a.base a.first i e.arrived e.looked)
 
 pub returns-in-Lost-clause-told : goal.returns-in-Lost-clause-told
 returns-in-Lost-clause-told g c before i =
     let e = c.in-Ok.ensures in let a = c.in-Ok.arrival in
     c.in-Lost.ensures.told before c.args.lost (arrived_since g.M.Means.means g.S.Slots.reused before c.args.seat.now
-    c.pin_and_load_both.new.seat c.args.lost a.seen.log a.base a.first i e.arrived e.looked)
+    c.pin_and_load_both.new.seat c.args.lost c.args.request.now.change.now a.seen.log a.base a.first i e.arrived e.looked)
 
 pub returns-in-Run-clause-first : goal.returns-in-Run-clause-first
 returns-in-Run-clause-first g c = (omega arith, c.in-Run.ensures.first)

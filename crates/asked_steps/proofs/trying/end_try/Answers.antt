@@ -3,8 +3,7 @@ use Rattle.reader_claims.specs.declared.view.View.{View}
 use Rattle.group_history.specs.Record.{after}
 use Rattle.head_word.specs.Books.{record_of}
 use Rattle.reader_claims.specs.Seats.{ClaimsId}
-use Rattle.group_steps.specs.Changing.{change_tried}
-use Rattle.group_steps.specs.Leaving.{Frees}
+use Rattle.group_steps.specs.Changing.{EndsAt, FreesTry}
 use Rattle.asked_steps.specs.Tries.{IsTurn, NeedsNone, TellsTurn}
 use Rattle.asked_steps.specs.declared.trying.Turn.{Turn}
 use Rattle.asked_steps.proofs.Since.{needs_none, tried_since, turn_ended}
@@ -20,8 +19,8 @@ returns-clause-told g c before lost a =
     (tried_since means reused c.args.tries before mid done new lost request.before.id request.change.now
     c.args.arrival.now.seen.log c.args.arrival.now.base r c.requires.stands.stood a e.seat
     c.unpin.ensures.looked c.unpin.ensures.view c.unpin.ensures.mark e.tried e.err e.cause
-    (λ again. subst (λ (t : ClaimsId). Frees t.sizes.slots mid done (change_tried request.change.now r))
-    (sym c.requires.reading.0.1 ∙ a.same.table) (e.frees again)))
+    (λ again. subst (λ (t : ClaimsId). FreesTry (EndsAt t.sizes (after (record_of c.args.arrival.now.seen.log))
+    request.change.now) request.change.now mid done r) (sym c.requires.reading.0.1 ∙ a.same.table) (e.frees again)))
 
 pub returns-clause-turn : goal.returns-clause-turn
 returns-clause-turn g c =

@@ -1,4 +1,4 @@
-use Rattle.std.proofs.Common.{◌≡◌, subst}
+use Rattle.std.proofs.Common.{◌≡◌, None, arith, subst}
 use Rattle.std.specs.Prelude.{IfErr}
 use Rattle.group_history.specs.declared.refusals.Refusal.{Refusal}
 use Rattle.group_history.specs.declared.refusals.Refusal.TheVariants as refusal
@@ -8,14 +8,15 @@ use Rattle.map_chunks.specs.Drafts.{IsLate}
 use Rattle.answered.specs.Trying.{IsUnproposed}
 use Rattle.group_steps.specs.Missing.{IsStop}
 use Rattle.group_steps.specs.Proposing.{asked_reply, change_asked}
-use Rattle.group_steps.proofs.Giving.{cause_unproposed, gives_none}
+use Rattle.group_steps.proofs.Giving.{cause_unproposed, frees_as, gives_none}
 use Rattle.asked_steps.proofs.trying.make_there.Goals as goal
 
 pub returns-in-Ok-None-clause-frees : goal.returns-in-Ok-None-clause-frees
-returns-in-Ok-None-clause-frees g c r = gives_none c.args.group.now.shared.table.sizes.slots c.args.seat.now.view
+returns-in-Ok-None-clause-frees g c r = gives_none _ c.args.seat.now
 
 pub returns-in-Err-clause-frees : goal.returns-in-Err-clause-frees
-returns-in-Err-clause-frees g c r = gives_none c.args.group.now.shared.table.sizes.slots c.args.seat.now.view
+returns-in-Err-clause-frees g c r = frees_as _ _ 0 1 c.args.seat.now c.args.seat.now None (omega arith) (λ end is. is)
+    (gives_none _ c.args.seat.now)
 
 pub returns-in-Err-clause-cause : goal.returns-in-Err-clause-cause
 returns-in-Err-clause-cause g c =

@@ -1,4 +1,4 @@
-use Rattle.std.proofs.Common.{◌<◌, ◌^◌, sym, subst, ◌∙◌, rules}
+use Rattle.std.proofs.Common.{◌≡◌, ◌<◌, ◌^◌, ℕ, None, Ok, Option, Some, ap, arith, sym, subst, ◌∙◌, rules}
 use Rattle.std.specs.Prelude.{IfSome}
 use Rattle.group_history.specs.declared.refs.Ref.{Ref}
 use Rattle.group_history.specs.Record.{after, after_change}
@@ -8,7 +8,9 @@ use Rattle.group_history.proofs.RecordLaws.{record_laws_hold}
 use Rattle.head_word.specs.Books.{drawn, record_of}
 use Rattle.answered.specs.Trying.{IsBase, IsWon}
 use Rattle.group_steps.specs.Proposing.{IsProposalFor}
-use Rattle.group_steps.proofs.Giving.{drawn_grown, lacks_room}
+use Rattle.reader_claims.specs.Seats.{kind_end}
+use Rattle.group_steps.specs.Changing.{EndsAt, FreesMove}
+use Rattle.group_steps.proofs.Giving.{drawn_grown, frees_as, lacks_room}
 use Rattle.group_steps.proofs.Trying.{has_last}
 use Rattle.asked_steps.proofs.trying.move_there.Goals as goal
 
@@ -43,6 +45,31 @@ returns-in-Ok-Some-clause-tried g c =
           won.1,
     )
 
+pub returns-in-Ok-Some-clause-frees : goal.returns-in-Ok-Some-clause-frees
+returns-in-Ok-Some-clause-frees g c r =
+    let old = c.args.seat.now in let new = c.move_head.new.seat in let change = c.args.request.now.change.now in
+    let sizes = c.args.group.now.shared.table.sizes in let s = after (record_of c.args.arrival.now.seen.log) in
+    let may = λ (end : ℕ). end ≡ kind_end sizes c.args.proposal.kind in
+    frees_as may (EndsAt sizes s change) 0 0 old new (Some change) (omega arith)
+    (λ end is. is ∙ ap (kind_end sizes) c.requires.proposed.1.kind)
+    (subst (λ (o : Option Ref). FreesMove may change old new (Ok o)) c.in-Ok-Some.field-0-is (c.in-Ok-Some.ensures.frees r))
+
+pub returns-in-Ok-None-clause-frees : goal.returns-in-Ok-None-clause-frees
+returns-in-Ok-None-clause-frees g c r =
+    let old = c.args.seat.now in let new = c.move_head.new.seat in let change = c.args.request.now.change.now in
+    let sizes = c.args.group.now.shared.table.sizes in let s = after (record_of c.args.arrival.now.seen.log) in
+    let may = λ (end : ℕ). end ≡ kind_end sizes c.args.proposal.kind in
+    frees_as may (EndsAt sizes s change) 1 1 old new None (omega arith)
+    (λ end is. is ∙ ap (kind_end sizes) c.requires.proposed.1.kind)
+    (subst (λ (o : Option Ref). FreesMove may change old new (Ok o)) c.in-Ok-None.field-0-is (c.in-Ok-None.ensures.frees r))
+
+pub returns-in-Err-clause-frees : goal.returns-in-Err-clause-frees
+returns-in-Err-clause-frees g c r =
+    let old = c.args.seat.now in let new = c.move_head.new.seat in let change = c.args.request.now.change.now in
+    let sizes = c.args.group.now.shared.table.sizes in let s = after (record_of c.args.arrival.now.seen.log) in
+    frees_as (λ (end : ℕ). end ≡ kind_end sizes c.args.proposal.kind) (EndsAt sizes s change) 1 1 old new None
+    (omega arith) (λ end is. is ∙ ap (kind_end sizes) c.requires.proposed.1.kind) (c.in-Err.ensures.frees r)
+
 pub returns-in-Err-clause-cause : goal.returns-in-Err-clause-cause
 returns-in-Err-clause-cause g c =
     let means = g.M.Means.means in let seat = c.args.seat.now in let new = c.move_head.new.seat in
@@ -52,6 +79,7 @@ returns-in-Err-clause-cause g c =
       asked = λ full. asked;
       room = λ r full. lacks_room means s change seat new c.args.group.now.shared.table c.args.proposal
           (drawn_grown seat.mark.log new.mark.log e.seat.later.seen) c.requires.reading.0.1 leads (e.full r full);
+      past = e.past;
       busy = e.busy;
       stamps = e.late;
     }

@@ -1,33 +1,35 @@
-use Rattle.std.proofs.Common.{◌≡◌, arith, length, map, List, Some, Option, Result, sym, subst, ap, ◌∙◌}
+use Rattle.std.proofs.Common.{◌≡◌, ◌∷◌, ◌++◌, [], ℕ, arith, length, map, List, Some, Option, refl, sym, subst, ap}
+use Rattle.std.proofs.Common.{◌∙◌, append-nil, append_assoc}
 use Rattle.std.specs.List.{Contains}
+use Rattle.std.proofs.lemmas.List.Elements.{All-nil}
 use Rattle.std.proofs.lemmas.Result.{err_from_is_err_and}
 use Rattle.group_history.specs.declared.refs.Ref.{Ref}
-use Rattle.group_history.specs.declared.refusals.Refusal.{Refusal}
 use Rattle.group_history.specs.Naming.{placed_ref}
 use Rattle.group_history.specs.Record.{after, after_change}
 use Rattle.group_history.specs.Refs.{slot_of, stamp_of}
 use Rattle.group_history.specs.Spelling.{version_of, Spells}
 use Rattle.group_history.specs.State.{State}
 use Rattle.group_history.proofs.Lists.{prefix_trans}
-use Rattle.head_word.specs.Books.{drawn, record_of}
+use Rattle.head_word.specs.declared.entry.Entry.{Entry}
+use Rattle.head_word.specs.Books.{drafted as drafted_by, drawn, moved, record_of}
+use Rattle.head_word.specs.Marks.{own}
 use Rattle.head_word.proofs.BookLaws.{spelled-stays}
 use Rattle.reader_claims.specs.declared.slot.Kind.{Kind}
 use Rattle.reader_claims.specs.Seats.{ClaimsId, kind_end}
 use Rattle.reader_claims.specs.Deeds.{Deed}
-use Rattle.answered.specs.Trying.{Ends}
+use Rattle.answered.specs.declared.trying.Published.{Published}
+use Rattle.answered.specs.Trying.{Ends, added}
 use Rattle.answered.proofs.Losing.{point_since}
 use Rattle.publishing.proofs.Reaching.{placed-reached}
 use Rattle.commit_graph.specs.Reach.{Reaches}
 use Rattle.commit_graph.proofs.Reached.{reaches_stays}
 use Rattle.publishing.proofs.Carrying.{placed_among, placed-spelled}
 use Rattle.publishing.specs.Placed.{LieBelow}
-use Rattle.publishing.specs.Retiring.{AreFreed, none}
-use Rattle.group_steps.specs.Changing.{is_made}
-use Rattle.group_steps.specs.Leaving.{Frees, FreesWhatIsLeft}
-use Rattle.group_steps.specs.Missing.{map_ok}
-use Rattle.group_steps.specs.Proposing.{change_asked}
+use Rattle.publishing.specs.Retiring.{AreFreed, GivenUp, GivesOneUp, drafted}
+use Rattle.group_steps.specs.Changing.{FreesMove}
+use Rattle.group_steps.specs.Leaving.{FreesWhatIsLeft}
 use Rattle.group_steps.proofs.Drafting.{one_state}
-use Rattle.group_steps.proofs.Giving.{are_left_grown, drawn_grown, drawn_until, gives_lost, gives_up, move_since}
+use Rattle.group_steps.proofs.Giving.{are_left_grown, drawn_grown, gives_lost, gives_up, move_since}
 use Rattle.group_steps.proofs.moving.move_head.Goals as goal
 
 pub exchange-requires-clause-among : goal.exchange-requires-clause-among
@@ -93,34 +95,47 @@ returns-in-Ok-Won-clause-won g c s is =
 
 pub returns-in_err-refs-clause-frees : goal.returns-in_err-refs-clause-frees
 returns-in_err-refs-clause-frees g c r =
-    let slots = c.args.shared.now.table.sizes.slots in let old = c.args.seat.now in let mid = c.place_draft.new.seat in
+    let old = c.args.seat.now in let mid = c.place_draft.new.seat in
+    let may = λ (end : ℕ). end ≡ kind_end c.args.shared.now.table.sizes c.args.proposal.kind in
     let p = err_from_is_err_and c.from_residual.result c.from_residual.ensures.1 in
     let e = c.place_draft.ensures in
-    subst (λ (w : Result (Option Ref) Refusal). Frees slots old mid (change_asked c.args.change.now (map_ok is_made w)))
-    (sym p.1) (gives_up slots (length c.args.proposal.draft.nodes) old.view mid.view (e.loads r) (e.reached r)
-    (c.in_err-refs.ensures.given r))
+    subst (FreesMove may c.args.change.now old mid) (sym p.1)
+    (gives_up may _ (length c.args.proposal.draft.nodes) old mid refl (e.loads r) (e.reached r)
+    (subst (λ (t : ClaimsId). GivesOneUp t.sizes.slots (kind_end c.args.shared.now.table.sizes c.args.proposal.kind)
+    (length c.args.proposal.draft.nodes) old.view.deeds old mid) (sym c.requires.reading.0.1) (c.in_err-refs.ensures.given r)))
 
 pub returns-in-Ok-Lost-clause-frees : goal.returns-in-Ok-Lost-clause-frees
 returns-in-Ok-Lost-clause-frees g c r =
-    let slots = c.args.shared.now.table.sizes.slots in let old = c.args.seat.now.view in
-    let mid = c.place_draft.new.seat in let new = c.exchange.new.seat.view in let refs = c.in_ok-refs.refs.items in
-    let what = subst (FreesWhatIsLeft slots (drawn mid.mark.log) c.args.proposal.base c.place_of-new.result
-    c.args.change.now c.deref-2.result.now mid.view new) c.in-Ok-Lost.field-0-is (c.in-Ok-Lost.ensures.freed r) in
+    let sizes = c.args.shared.now.table.sizes in let old = c.args.seat.now in
+    let mid = c.place_draft.new.seat in let new = c.exchange.new.seat in let refs = c.in_ok-refs.refs.items in
+    let what = subst (FreesWhatIsLeft sizes.slots (drawn mid.mark.log) c.args.proposal.base c.place_of-new.result
+    c.args.change.now c.deref-2.result.now mid.view new.view) c.in-Ok-Lost.field-0-is (c.in-Ok-Lost.ensures.freed r) in
     let first = c.place_draft.ensures in let then = c.exchange.ensures in
-    gives_lost slots old mid.view new c.args.proposal.draft refs (c.in_ok-refs.ensures.placed).count (first.loads r)
-    (first.reached r) (then.loads r) (then.reached r) (c.in_ok-refs.ensures.drafted r)
-    (subst (λ (ats : List Ref). AreFreed slots new.reached (map slot_of ats) mid.view.deeds new.deeds)
-    c.deref-2.ensures.value what.2)
+    let same : own new.mark ≡ own mid.mark = subst (λ (p : Published). own new.mark ≡ own mid.mark
+    ++ added mid.mark.seat c.place_of-new.result c.args.change.now p) c.in-Ok-Lost.field-0-is c.in-Ok-Lost.ensures.own
+    ∙ append-nil (own mid.mark) in
+    gives_lost (λ (end : ℕ). end ≡ kind_end sizes c.args.proposal.kind) _ old mid new refs refl
+    (c.in_ok-refs.ensures.within r) c.in_ok-refs.ensures.drawn same
+    (let x = first.loads r in let y = then.loads r in omega arith)
+    (let x = first.reached r in let y = then.reached r in omega arith) (c.in_ok-refs.ensures.drafted r)
+    (subst (λ (t : ClaimsId). AreFreed t.sizes.slots new.view.reached (map slot_of refs) mid.view.deeds new.view.deeds)
+    (sym c.requires.reading.0.1)
+    (subst (λ (ats : List Ref). AreFreed sizes.slots new.view.reached (map slot_of ats) mid.view.deeds new.view.deeds)
+    c.deref-2.ensures.value what.2))
 
 pub returns-clause-frees : goal.returns-clause-frees
 returns-clause-frees g c r =
-    let slots = c.args.shared.now.table.sizes.slots in let old = c.args.seat.now.view in
-    let mid = c.place_draft.new.seat.view in let new = c.exchange.new.seat.view in
+    let sizes = c.args.shared.now.table.sizes in let old = c.args.seat.now in
+    let mid = c.place_draft.new.seat in let new = c.exchange.new.seat in let refs = c.in_ok-refs.refs.items in
     let first = c.place_draft.ensures in let then = c.exchange.ensures in
-    gives_lost slots old mid new c.args.proposal.draft c.in_ok-refs.refs.items (c.in_ok-refs.ensures.placed).count
-    (first.loads r) (first.reached r) (then.loads r) (then.reached r) (c.in_ok-refs.ensures.drafted r)
-    (subst (λ (ats : List Ref). AreFreed slots new.reached (map slot_of ats) mid.deeds new.deeds)
-    c.deref-2.ensures.value (c.in-Err.ensures.given r))
+    gives_lost (λ (end : ℕ). end ≡ kind_end sizes c.args.proposal.kind) _ old mid new refs refl
+    (c.in_ok-refs.ensures.within r) c.in_ok-refs.ensures.drawn (ap own c.in-Err.ensures.err.1)
+    (let x = first.loads r in let y = then.loads r in omega arith)
+    (let x = first.reached r in let y = then.reached r in omega arith) (c.in_ok-refs.ensures.drafted r)
+    (subst (λ (t : ClaimsId). AreFreed t.sizes.slots new.view.reached (map slot_of refs) mid.view.deeds new.view.deeds)
+    (sym c.requires.reading.0.1)
+    (subst (λ (ats : List Ref). AreFreed sizes.slots new.view.reached (map slot_of ats) mid.view.deeds new.view.deeds)
+    c.deref-2.ensures.value (c.in-Err.ensures.given r)))
 
 pub returns-in-Ok-Won-clause-frees : goal.returns-in-Ok-Won-clause-frees
 returns-in-Ok-Won-clause-frees g c r =
@@ -140,6 +155,7 @@ returns-in-Ok-Won-clause-frees g c r =
     (version_of means st) m.base in
     let what = subst (FreesWhatIsLeft slots (drawn mid.mark.log) p.base to change c.deref-2.result.now mid.view new.view)
     c.in-Ok-Won.field-0-is (c.in-Ok-Won.ensures.freed r) in
+    let d = c.in_ok-refs.ensures.drawn in
     let first = c.place_draft.ensures in let then = c.exchange.ensures in
     let later = c.place_draft.ensures.seat.later in
     let among = placed_among (drawn old.mark.log) (drawn mid.mark.log) p.draft refs c.in_ok-refs.ensures.placed
@@ -161,7 +177,10 @@ returns-in-Ok-Won-clause-frees g c r =
           (version_of means (after_change st change)) change what.0
           (drawn_grown mid.mark.log new.mark.log c.exchange.ensures.seat.later.seen) base there what.1;
       refs = refs;
-      own = drawn_until old.mark mid.mark new.mark refs then.seat.later.seen c.in_ok-refs.ensures.drawn;
+      first = d.first;
+      contents = d.contents;
+      stamps = d.stamps;
+      each = d.count;
       within = low;
       among = subst (Contains refs) (sym placed) among;
       needed = λ at i. reaches_stays (drawn mid.mark.log) (drawn new.mark.log) (stamp_of to) (stamp_of at)
@@ -169,10 +188,23 @@ returns-in-Ok-Won-clause-frees g c r =
           (subst (λ (r : Ref). Reaches (drawn mid.mark.log) (stamp_of r) (stamp_of at)) (sym placed)
           (placed-reached (drawn old.mark.log) (drawn mid.mark.log) p.draft refs c.in_ok-refs.ensures.placed p.at
           m.leads.needed at i));
+      given = [];
+      few = omega arith;
       lost = old.view.deeds;
-      gave = none;
-      freed = subst (λ (xs : List Deed). AreFreed slots new.view.reached (map slot_of what.0) xs new.view.deeds)
-          (c.in_ok-refs.ensures.drafted r) what.2;
-      loads = let x = first.loads r in let y = then.loads r in omega arith;
-      reached = let x = first.reached r in let y = then.reached r in omega arith;
+      back = record {
+        ends = All-nil (λ (g : GivenUp). g.end ≡ kind_end c.args.shared.now.table.sizes p.kind);
+        gave = refl;
+        loads = let x = first.loads r in let y = then.loads r in omega arith;
+        reached = let x = first.reached r in let y = then.reached r in omega arith;
+      };
+      own = subst (λ (p : Published). own new.mark ≡ own mid.mark ++ added mid.mark.seat to change p)
+          c.in-Ok-Won.field-0-is c.in-Ok-Won.ensures.own
+          ∙ ap (λ (s : Option ℕ). own mid.mark ++ moved s to (Some change) ∷ []) later.seat
+          ∙ ap (λ (es : List Entry). es ++ moved old.mark.seat to (Some change) ∷ []) d.own
+          ∙ append_assoc (own old.mark) (drafted_by old.mark.seat d.first d.contents ∷ [])
+          (moved old.mark.seat to (Some change) ∷ []);
+      freed = subst (λ (t : ClaimsId). AreFreed t.sizes.slots new.view.reached (map slot_of what.0)
+          (drafted (map slot_of refs) [] old.view.deeds) new.view.deeds) (sym c.requires.reading.0.1)
+          (subst (λ (xs : List Deed). AreFreed slots new.view.reached (map slot_of what.0) xs new.view.deeds)
+          (c.in_ok-refs.ensures.drafted r) what.2);
     }

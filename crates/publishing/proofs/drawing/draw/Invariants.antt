@@ -1,6 +1,6 @@
 use Rattle.std.proofs.Common.{◌≡◌, ◌+◌, ◌≤◌}
 use mathlib.Core.List.{IsPrefix}
-use Rattle.head_word.specs.Marks.{others}
+use Rattle.head_word.specs.Marks.{others, own}
 use Rattle.answered.specs.Answered.{own_moves}
 use Rattle.publishing.proofs.drawing.draw.Given as goal
 
@@ -10,6 +10,7 @@ invariant-loop-tried g l = record {
   book : l.mark.book ≡ l.initial.mark.book;
   number : l.mark.seat ≡ l.initial.mark.seat;
   seen : IsPrefix l.initial.mark.log l.mark.log;
+  nothing : own l.mark ≡ own l.initial.mark;
   own : own_moves l.mark ≡ own_moves l.initial.mark;
   lost : others l.initial.mark + l.tried ≤ others l.mark;
 }

@@ -1,5 +1,8 @@
 use Rattle.std.proofs.Common.{◌≡◌, ◌<◌, ◌++◌, [], length, ap, subst, sym, ◌∙◌, arith, length-append}
-use Rattle.publishing.specs.Inside.Stacks.{Uses}
+use Rattle.std.proofs.lemmas.List.Elements.{All-append}
+use Rattle.reader_claims.specs.Seats.{kind_end}
+use Rattle.publishing.specs.Inside.Stacks.{AreBelow, Uses}
+use Rattle.publishing.proofs.Lying.{none_below, taken_below}
 use Rattle.publishing.proofs.Passing.{all_shut_as, knows_withdrawn, pins_as}
 use Rattle.publishing.proofs.Popping.{length_taken}
 use Rattle.publishing.proofs.Using.{taken_back, uses_uses}
@@ -19,14 +22,18 @@ returns-in-Err-clause-given g c = λ r.
     let v = g.S.Slots.view c.args.seat.now in
     let m = g.S.Slots.view c.take_more.new.seat in
     let u = g.S.Slots.view c.withdraw_all.new.seat in
-    let (w, taken, back, one, only, used) = c.in-Err.ensures.used r in
+    let (w, taken, back, one, low, only, used) = c.in-Err.ensures.used r in
     let all = uses_uses w m u [] back m.taken used (c.withdraw_all.ensures.used r) in
     let whole : w.taken ≡ back ++ m.taken = used.0 in
+    let end = kind_end (g.S.Slots.serves c.args.store.now).sizes c.args.kind in
+    let held = taken_below end m c.take_more.new.slots.items (c.take_more.ensures.taken r)
+    (c.take_more.ensures.within r (none_below end _ c.in_ok-slots.ensures.items)) in
     let few : length m.taken < c.args.count = subst (λ n. n < c.args.count)
     (sym (length_taken m c.take_more.new.slots.items (c.take_more.ensures.taken r)))
     (omega (arith, c.in-Err.ensures.few, ap length c.in_ok-slots.ensures.items)) in (
       w.taken,
       omega (arith, ap length whole, length-append back m.taken, one, few),
+      subst (AreBelow end) (sym whole) (All-append (λ i. i < end) back m.taken low held),
       taken_back v w u taken only (c.requires.none r) (subst (λ is. Uses w [] is u) (sym whole) all),
     )
 

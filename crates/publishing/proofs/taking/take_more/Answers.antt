@@ -3,7 +3,7 @@ use Rattle.std.specs.Prelude.{IfErr}
 use Rattle.group_history.specs.declared.refusals.Refusal.TheVariants as refusal
 use Rattle.reader_claims.specs.declared.view.View.{View}
 use Rattle.reader_claims.specs.Passes.{FindsNone, OnlyTakes}
-use Rattle.publishing.specs.Inside.Stacks.{Uses}
+use Rattle.publishing.specs.Inside.Stacks.{AreBelow, Uses}
 use Rattle.reader_claims.specs.Seats.{kind_end}
 use Rattle.reader_claims.proofs.Scans.{only_takes}
 use Rattle.publishing.proofs.Passing.{passed_over}
@@ -59,13 +59,16 @@ returns-in_err-take_next-clause-used g c = λ r.
     let u = g.S.Slots.view c.take_next.new.seat in
     let had = c.loop-held.invariant.took r in
     let one = c.in_err-take_next.ensures.used r in
-    let here : (w : View) × (taken back : List ℕ) × (length back ≤ 1) × OnlyTakes first w taken × Uses w [] back u = (
+    let end = kind_end (g.S.Slots.serves c.args.store.now).sizes c.args.kind in
+    let here : (w : View) × (taken back : List ℕ) × (length back ≤ 1) × AreBelow end back × OnlyTakes first w taken
+    × Uses w [] back u = (
       one.0,
       one.1 ++ had.0,
       one.1,
       one.2,
-      only_takes first v one.0 had.0 one.1 had.1 one.3,
-      one.4,
+      one.3,
+      only_takes first v one.0 had.0 one.1 had.1 one.4,
+      one.5,
     ) in
     search rules
 

@@ -1,6 +1,7 @@
 use Rattle.std.proofs.Common.{◌≡◌, ◌∷◌, ◌++◌, [], refl, arith, ap, subst, sym, rules}
 use Rattle.reader_claims.specs.declared.view.View.{View}
 use Rattle.publishing.specs.Inside.Stacks.{HasTaken}
+use Rattle.publishing.proofs.Lying.{one_below}
 use Rattle.publishing.proofs.Popping.{headed, pushed, withdrawn}
 use Rattle.publishing.proofs.Stepping.{steps_beside, steps_keeping, steps_steps}
 use Rattle.publishing.proofs.taking.take_next.Goals as goal
@@ -29,6 +30,7 @@ returns-then-is_err-clause-used g c = λ r.
       u,
       x ∷ [],
       omega arith,
+      one_below _ x (c.in-Some.ensures.taken r).0,
       (takes.1, c.in-Some.ensures.deeds r),
       (
         headed u w (slots ++ x ∷ []) slots x refl had left,

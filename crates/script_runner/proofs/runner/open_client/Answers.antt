@@ -35,7 +35,6 @@ returns-clause-new g c =
       caller = caller_of x;
       seat = x.seat;
       watches = made.watches;
-      slots = x.group.group.table.sizes.slots;
     }))) (sym c.new.ensures.client)
     (record {
       writes = ap (λ g. g.identity) said.group;

@@ -1,6 +1,9 @@
-use Rattle.std.proofs.Common.{sym, subst}
+use Rattle.std.proofs.Common.{◌≡◌, None, Some, sym, subst}
+use Rattle.answered.specs.Answered.{own_moves}
+use Rattle.group_steps.specs.Leaving.{Frees}
+use Rattle.rebase.specs.Clients.{Acts}
 use Rattle.std.specs.Prelude.{⊤}
-use Rattle.rebase.specs.Running.{BeganAs}
+use Rattle.rebase.specs.Running.{BeganAs, UnderWay}
 use Rattle.rebase.specs.Inside.Shown.{under_way}
 use Rattle.rebase.proofs.Running.{given_up}
 use Rattle.rebase.proofs.asking.Asking+M+Arena+M.abandon.Goals as goal
@@ -11,7 +14,11 @@ returns g c =
     record {
       left = λ before began.
           let gone = given_up means ⊤ before (under_way a.client a.change a.attempt a.tries) c.unpin_arena.new.self
-          (subst (BeganAs means ⊤ before) (sym c.self.view_is) began) c.self.invariant.0.reading.0.1
+          (subst (BeganAs means ⊤ before) (sym c.self.view_is) began)
           c.unpin_arena.ensures.stays c.unpin_arena.ensures.mark in
+          subst (λ (w : UnderWay). Acts ⊤ before c.unpin_arena.new.self
+          × (c.unpin_arena.new.self.last ≡ before.last)
+          × (own_moves c.unpin_arena.new.self.seat.mark ≡ own_moves before.seat.mark)
+          × Frees (Some w.change) 0 before.seat c.unpin_arena.new.self.seat None) c.self.view_is
           (gone.0, gone.1, gone.2, gone.3 tt);
     }

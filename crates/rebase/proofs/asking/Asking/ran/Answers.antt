@@ -41,7 +41,7 @@ returns-clause-told g c before began =
     (seat-trans before.seat a.client.seat new b.since.same
     (subst (λ (w : Seated). IsSameSeat w new) seat e.seat))
     (subst (λ (n : ℕ). TellsProgress means reused a.tries before.seat new n a.change p) (id ∙ b.last)
-    (e.told before.seat (subst (λ (w : Seated). IsArrivedSince means reused before.seat a.attempt.lost
+    (e.told before.seat (subst (λ (w : Seated). IsArrivedSince means reused before.seat a.attempt.lost a.change
     a.attempt.arrival.seen.log w) (sym seat) b.since))))
 
 pub returns-clause-next : goal.returns-clause-next

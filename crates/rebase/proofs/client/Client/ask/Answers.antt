@@ -30,7 +30,7 @@ returns-clause-told g c =
     (subst (λ (w : Seated). IsSameSeat w new) seat e.seat)
     (subst (λ (w : Seated). TellsProgress means reused c.args.tries w new self.last c.args.change p) seat
     (subst (λ (n : ℕ). TellsProgress means reused c.args.tries k.seat new n c.args.change p) id
-    (e.told k.seat (since_self reused k.seat))))
+    (e.told k.seat (since_self reused c.args.change k.seat))))
 
 pub returns-clause-first : goal.returns-clause-first
 returns-clause-first g c =

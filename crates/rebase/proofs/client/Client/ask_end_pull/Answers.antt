@@ -1,7 +1,12 @@
 use Rattle.std.proofs.Common.{Ok, ap, ◌∙◌}
 use Rattle.rebase.specs.Running.{IsFirst, IsUnwritten}
-use Rattle.rebase.proofs.Running.{closed_told_as, tells_none, unread_told, unsupported_told}
+use Rattle.rebase.proofs.Running.{closed_told_as, pulled_told_as, tells_none, unread_told, unsupported_told}
 use Rattle.rebase.proofs.client.Client.ask_end_pull.Goals as goal
+
+pub returns-in-Ok-Ok-clause-told : goal.returns-in-Ok-Ok-clause-told
+returns-in-Ok-Ok-clause-told g c =
+    pulled_told_as g.M.Means.means g.S.Slots.reused c.args.tries c.args.self c.args.ticket.now.cookie c.in-Ok-Ok.pull
+    c.args.body.now c.ask_pulled.result (c.in-Ok-Ok.ensures.read ∙ ap Ok c.in-Ok-Ok.field-0-is) c.ask_pulled.ensures.told
 
 pub returns-in-Ok-StateNotFound-clause-told : goal.returns-in-Ok-StateNotFound-clause-told
 returns-in-Ok-StateNotFound-clause-told g c =

@@ -4,7 +4,6 @@ use Rattle.group_history.specs.Record.{after}
 use Rattle.head_word.specs.Books.{record_of}
 use Rattle.group_steps.specs.Missing.{map_ok}
 use Rattle.rebase.specs.Calls.{AreAnswered, AreReplies, Caller, IsAlone, caller_of}
-use Rattle.rebase.specs.Clients.{Grouped}
 use Rattle.rebase.specs.Replies.{reply_seen}
 use Rattle.rebase.proofs.CallLemmas.{alone_replies, caller_stays}
 use Rattle.rebase.proofs.client.Client.call_all.Goals as goal
@@ -14,15 +13,12 @@ returns-clause-answers g c =
     let means = g.M.Means.means in let reused = g.S.Slots.reused in
     let old = c.args.self.now in let rested = c.unpin.new.self in let new = c.call_each.new.self in
     let rs = map (map_ok reply_seen) c.call_each.new.replies.items in let stays = c.unpin.ensures.stays in
-    let slots = old.group.group.table.sizes.slots in
     let who = caller_stays old rested stays.0.client stays.1 in (
       rested.seat,
       stays.0.looked,
       c.unpin.ensures.mark,
-      subst (λ (d : Caller). AreAnswered means reused c.args.tries slots d rested.seat c.args.calls.now rs new.seat
-          (caller_of new)) who
-          (subst (λ (h : Grouped). AreAnswered means reused c.args.tries h.group.table.sizes.slots (caller_of rested)
-          rested.seat c.args.calls.now rs new.seat (caller_of new)) stays.0.client.0 c.call_each.ensures.answers),
+      subst (λ (d : Caller). AreAnswered means reused c.args.tries d rested.seat c.args.calls.now rs new.seat
+          (caller_of new)) who c.call_each.ensures.answers,
     )
 
 pub returns-clause-replies : goal.returns-clause-replies
@@ -31,9 +27,9 @@ returns-clause-replies g c alone =
     let old = c.args.self.now in let rested = c.unpin.new.self in let new = c.call_each.new.self in
     let rs = map (map_ok reply_seen) c.call_each.new.replies.items in let stays = c.unpin.ensures.stays in
     let who = caller_stays old rested stays.0.client stays.1 in
-    let answered = subst (λ (d : Caller). AreAnswered means reused c.args.tries rested.group.group.table.sizes.slots d
+    let answered = subst (λ (d : Caller). AreAnswered means reused c.args.tries d
     rested.seat c.args.calls.now rs new.seat (caller_of new)) who c.call_each.ensures.answers in
     subst (λ (m : Known). IsAlone m new.seat.mark → AreReplies means (caller_of old) (after (record_of m.log))
     c.args.calls.now rs (after (record_of new.seat.mark.log)) (caller_of new)) c.unpin.ensures.mark
-    (alone_replies means reused c.args.tries rested.group.group.table.sizes.slots (caller_of old) rested.seat
+    (alone_replies means reused c.args.tries (caller_of old) rested.seat
     c.args.calls.now rs new.seat (caller_of new) answered) alone

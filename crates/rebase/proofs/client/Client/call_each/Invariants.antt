@@ -7,7 +7,7 @@ use Rattle.rebase.proofs.client.Client.call_each.Given as goal
 
 abbrev pub invariant-loop-call : goal.invariant-loop-call
 invariant-loop-call g l = record {
-  answered : AreAnswered g.M.Means.means g.S.Slots.reused l.tries l.fn.self.group.group.table.sizes.slots
+  answered : AreAnswered g.M.Means.means g.S.Slots.reused l.tries
       (caller_of l.fn.self) l.fn.self.seat (take l.call-index l.calls) (map (map_ok reply_seen) l.replies.items)
       l.self.seat (caller_of l.self);
   acts : Acts g.S.Slots.reused l.fn.self l.self;

@@ -5,9 +5,8 @@ use Rattle.pull_patch.specs.Grammar.{answer_to}
 use Rattle.answered.specs.Changes.{change_read}
 use Rattle.commit_graph.proofs.Seating.{seat-self, seat-trans}
 use Rattle.group_steps.specs.Causes.{HasCause}
-use Rattle.group_steps.specs.Leaving.{Frees}
+use Rattle.group_steps.specs.Leaving.{Frees, spared}
 use Rattle.rebase.specs.Asking.{change_wanted, end_bytes_reply, is_passing}
-use Rattle.rebase.specs.Clients.{Grouped}
 use Rattle.rebase.proofs.Causing.{cause_anew, frees_anew, frees_loads, frees_self, if_err_then, looked_looked, looked_self}
 use Rattle.rebase.proofs.Lasting.{begun_anew, left_alone, passing_changes, passing_read}
 use Rattle.rebase.proofs.client.Client.end_pull.Goals as goal
@@ -35,11 +34,12 @@ loop-turn-preserved g c =
       own = left_alone g.M.Means.means 1000 mid.seat.mark new.seat.mark c.try_end_pull-reply.result
           (change_read ticket (answer_to c.args.body.now)) (λ s. end_bytes_reply s ticket.text c.args.body.now) passes
           (passing_read ticket (answer_to c.args.body.now)) e.answer ∙ i.own;
-      gave = λ r. frees_anew old.group.group.table.sizes.slots old.seat mid.seat new.seat None i.seat (i.gave r)
-          (subst (λ (group : Grouped). Frees group.group.table.sizes.slots mid.seat new.seat None) i.client.0
-          (subst (λ (o : Option Change). Frees mid.group.group.table.sizes.slots mid.seat new.seat o)
+      gave = λ r. frees_anew (change_wanted ticket (answer_to c.args.body.now)) (spared c.try_end_pull-reply.result)
+          old.seat mid.seat new.seat None i.seat e.acts.0.seat (i.gave r)
+          (subst (λ (o : Option Change). Frees (change_wanted ticket (answer_to c.args.body.now))
+          (spared c.try_end_pull-reply.result) mid.seat new.seat o)
           (passing_changes c.try_end_pull-reply.result (change_read ticket (answer_to c.args.body.now)) passes
-          (passing_read ticket (answer_to c.args.body.now))) (e.frees r)));
+          (passing_read ticket (answer_to c.args.body.now))) (e.frees r));
       looked = λ none. looked_looked g.S.Slots.reused old.seat mid.seat new.seat (i.looked none) (e.looked none);
     }
 
@@ -48,7 +48,7 @@ loop-turn-init g c = let old = c.args.self.now in record {
   client = (refl, refl);
   last = refl;
   seat = seat-self old.seat;
-  gave = λ r. frees_self old.group.group.table.sizes.slots old.seat;
+  gave = λ r. frees_self (change_wanted c.args.ticket.now.cookie (answer_to c.args.body.now)) old.seat;
   own = refl;
   looked = λ none. looked_self g.S.Slots.reused old.seat;
 }
@@ -64,16 +64,15 @@ returns-then-is_last-clause-cause g c =
     if_err_then (HasCause means reused old.last asked mid.seat new.seat)
     (HasCause means reused old.last asked old.seat new.seat) reply last (λ e h.
     cause_anew means reused old.last asked old.seat mid.seat new.seat e i.seat.later.seen i.seat.table
-    (λ r. frees_loads old.group.group.table.sizes.slots old.seat mid.seat (i.gave r)) h)
+    (λ r. frees_loads asked old.seat mid.seat (i.gave r)) h)
 
 pub returns-then-is_last-clause-frees : goal.returns-then-is_last-clause-frees
 returns-then-is_last-clause-frees g c r =
     let old = c.args.self.now in let mid = c.loop-turn.self in let new = c.try_end_pull-reply.new.self in
     let i = c.loop-turn.invariant in let reply = c.try_end_pull-reply.result in
     let change = change_read c.args.ticket.now.cookie (answer_to c.args.body.now) reply in
-    frees_anew old.group.group.table.sizes.slots old.seat mid.seat new.seat change i.seat (i.gave r)
-    (subst (λ (group : Grouped). Frees group.group.table.sizes.slots mid.seat new.seat change) i.client.0
-    (c.try_end_pull-reply.ensures.frees r))
+    frees_anew (change_wanted c.args.ticket.now.cookie (answer_to c.args.body.now)) (spared reply) old.seat mid.seat
+    new.seat change i.seat c.try_end_pull-reply.ensures.acts.0.seat (i.gave r) (c.try_end_pull-reply.ensures.frees r)
 
 pub returns-then-is_last-clause-looked : goal.returns-then-is_last-clause-looked
 returns-then-is_last-clause-looked g c none =

@@ -1,1 +1,0 @@
-use Rattle.rebase.proofs.client.Client.end_unsupported.Goals as goal

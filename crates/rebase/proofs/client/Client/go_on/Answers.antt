@@ -1,4 +1,4 @@
-use Rattle.std.proofs.Common.{◌≡◌, sym, subst}
+use Rattle.std.proofs.Common.{sym, subst}
 use Rattle.rebase.specs.Clients.{ClientState}
 use Rattle.rebase.specs.Inside.Shown.{under_way}
 use Rattle.rebase.specs.Replies.{reply_seen}
@@ -31,5 +31,4 @@ returns-in-Ended-clause-told g c before same last seat tells =
     let e = c.end_change-reply.ensures in
     go_end means reused c.args.tries before c.args.self c.end_change-reply.new.self c.args.change c.args.progress
     c.in-Ended.made (map_ok reply_seen c.end_change-reply.result) c.in-Ended.is same last seat c.requires.progress tells
-    (subst (λ (w : ClientState). w.seat.table ≡ w.group.group.table) c.client.view_is c.client.invariant.0.home.1)
     e.reply e.last e.seat e.same

@@ -1,7 +1,8 @@
-use Rattle.std.proofs.Common.{◌≡◌, ◌+◌, ℕ, true, false, None, Option, Some, refl, rules, subst, ◌∙◌}
+use Rattle.std.proofs.Common.{◌≡◌, ◌+◌, ℕ, true, false, None, Option, Some, ap, refl, rules, subst, ◌∙◌}
 use Rattle.std.specs.Prelude.{IfOk, IfErr}
 use Rattle.group_history.specs.declared.changes.Change.{Change}
 use Rattle.group_history.specs.declared.changes.Change.TheVariants.{Mutated}
+use Rattle.group_history.specs.declared.mutations.Mutation.{Mutation}
 use Rattle.group_history.specs.Map.{Bytes}
 use Rattle.group_history.specs.Mutating.{mutate_reply}
 use Rattle.group_history.specs.State.{made}
@@ -10,8 +11,7 @@ use Rattle.answered.specs.Changes.{change_made}
 use Rattle.rebase.specs.Asking.{is_passing}
 use Rattle.commit_graph.proofs.Seating.{seat-self, seat-trans}
 use Rattle.group_steps.specs.Causes.{HasCause}
-use Rattle.group_steps.specs.Leaving.{Frees}
-use Rattle.rebase.specs.Clients.{Grouped}
+use Rattle.group_steps.specs.Leaving.{Frees, spared}
 use Rattle.rebase.proofs.Causing.{cause_anew, frees_anew, frees_loads, frees_self, if_err_then}
 use Rattle.rebase.proofs.Lasting.{begun_anew, left_alone, passing_changes, passing_err}
 use Rattle.rebase.proofs.client.Client.mutate.Goals as goal
@@ -47,15 +47,19 @@ loop-turn-preserved g c =
     let old = c.args.self.now in let mid = c.loop-turn.self in let new = c.try_mutate-reply.new.self in
     let i = c.loop-turn.invariant in let e = c.try_mutate-reply.ensures in
     let x = made mid.id (mid.last + 1) c.args.name.now c.args.args.now c.args.time in
+    let y = made old.id (old.last + 1) c.args.name.now c.args.args.now c.args.time in
+    let same : x ≡ y = ap (λ (client : Bytes). made client (mid.last + 1) c.args.name.now c.args.args.now c.args.time)
+    i.client.1 ∙ ap (λ (n : ℕ). made old.id (n + 1) c.args.name.now c.args.args.now c.args.time) i.last in
     let passes : is_passing c.try_mutate-reply.result ≡ true = search rules in record {
       client = (e.acts.client.0 ∙ i.client.0, e.acts.client.1 ∙ i.client.1);
       last = passing_err c.try_mutate-reply.result _ passes e.left ∙ i.last;
       seat = seat-trans old.seat mid.seat new.seat i.seat e.acts.seat;
       own = left_alone g.M.Means.means 1000 mid.seat.mark new.seat.mark c.try_mutate-reply.result (change_made x)
           (λ s. mutate_reply g.M.Means.means s mid.last x) passes (λ _ _. refl) e.answer ∙ i.own;
-      gave = λ r. frees_anew old.group.group.table.sizes.slots old.seat mid.seat new.seat None i.seat (i.gave r)
-          (subst (λ (group : Grouped). Frees group.group.table.sizes.slots mid.seat new.seat None) i.client.0
-          (subst (λ (o : Option Change). Frees mid.group.group.table.sizes.slots mid.seat new.seat o)
+      gave = λ r. frees_anew (Some (Mutated y)) (spared c.try_mutate-reply.result) old.seat mid.seat new.seat None i.seat
+          e.acts.seat (i.gave r) (subst (λ (z : Mutation). Frees (Some (Mutated z)) (spared c.try_mutate-reply.result)
+          mid.seat new.seat None) same
+          (subst (λ (o : Option Change). Frees (Some (Mutated x)) (spared c.try_mutate-reply.result) mid.seat new.seat o)
           (passing_changes c.try_mutate-reply.result (change_made x) passes (λ _ _. refl)) (e.frees r)));
     }
 
@@ -64,7 +68,8 @@ loop-turn-init g c = let old = c.args.self.now in record {
   client = (refl, refl);
   last = refl;
   seat = seat-self old.seat;
-  gave = λ r. frees_self old.group.group.table.sizes.slots old.seat;
+  gave = λ r. frees_self
+      (Some (Mutated (made old.id (old.last + 1) c.args.name.now c.args.args.now c.args.time))) old.seat;
   own = refl;
 }
 
@@ -83,19 +88,16 @@ returns-then-not-is_passing-clause-cause g c =
     if_err_then (HasCause means reused old.last asked mid.seat new.seat)
     (HasCause means reused old.last asked old.seat new.seat) reply last (λ e h.
     cause_anew means reused old.last asked old.seat mid.seat new.seat e i.seat.later.seen i.seat.table
-    (λ r. frees_loads old.group.group.table.sizes.slots old.seat mid.seat (i.gave r)) h)
+    (λ r. frees_loads asked old.seat mid.seat (i.gave r)) h)
 
 pub returns-then-not-is_passing-clause-frees : goal.returns-then-not-is_passing-clause-frees
 returns-then-not-is_passing-clause-frees g c r =
     let old = c.args.self.now in let mid = c.loop-turn.self in let new = c.try_mutate-reply.new.self in
     let i = c.loop-turn.invariant in let reply = c.try_mutate-reply.result in
     let name = c.args.name.now in let args = c.args.args.now in let time = c.args.time in
-    let slots = old.group.group.table.sizes.slots in
-    let here = subst (λ (group : Grouped). Frees group.group.table.sizes.slots mid.seat new.seat
-    (change_made (made mid.id (mid.last + 1) name args time) reply)) i.client.0 (c.try_mutate-reply.ensures.frees r) in
-    let id = subst (λ (client : Bytes). Frees slots mid.seat new.seat
-    (change_made (made client (mid.last + 1) name args time) reply)) i.client.1 here in
-    let last = subst (λ (n : ℕ). Frees slots mid.seat new.seat (change_made (made old.id (n + 1) name args time) reply))
-    i.last id in
-    frees_anew slots old.seat mid.seat new.seat (change_made (made old.id (old.last + 1) name args time) reply) i.seat
-    (i.gave r) last
+    let x = made mid.id (mid.last + 1) name args time in let y = made old.id (old.last + 1) name args time in
+    let same : x ≡ y = ap (λ (client : Bytes). made client (mid.last + 1) name args time) i.client.1
+    ∙ ap (λ (n : ℕ). made old.id (n + 1) name args time) i.last in
+    frees_anew (Some (Mutated y)) (spared reply) old.seat mid.seat new.seat (change_made y reply) i.seat
+    c.try_mutate-reply.ensures.acts.seat (i.gave r) (subst (λ (z : Mutation). Frees (Some (Mutated z)) (spared reply)
+    mid.seat new.seat (change_made z reply)) same (c.try_mutate-reply.ensures.frees r))

@@ -1,7 +1,9 @@
-use Rattle.std.proofs.Common.{◌≡◌, None}
+use Rattle.std.proofs.Common.{◌≡◌, ◌+◌, None, Some}
+use Rattle.group_history.specs.declared.changes.Change.TheVariants.{Mutated}
+use Rattle.group_history.specs.State.{made}
 use Rattle.answered.specs.Answered.{own_moves}
 use Rattle.commit_graph.specs.Seats.{IsSameSeat}
-use Rattle.group_steps.specs.Leaving.{Frees}
+use Rattle.group_steps.specs.Leaving.{FreesAnew}
 use Rattle.rebase.specs.Clients.{IsSameClient}
 use Rattle.rebase.proofs.client.Client.mutate.Given as goal
 
@@ -11,6 +13,8 @@ invariant-loop-turn g l = record {
   client : IsSameClient l.initial.self l.self;
   last : l.self.last ≡ l.initial.self.last;
   seat : IsSameSeat l.initial.self.seat l.self.seat;
-  gave : g.S.Slots.reused → Frees l.initial.self.group.group.table.sizes.slots l.initial.self.seat l.self.seat None;
+  gave : g.S.Slots.reused → FreesAnew
+      (Some (Mutated (made l.initial.self.id (l.initial.self.last + 1) l.name l.args l.time)))
+      l.initial.self.seat l.self.seat None;
   own : own_moves l.self.seat.mark ≡ own_moves l.initial.self.seat.mark;
 }

@@ -1,4 +1,4 @@
-use Rattle.std.proofs.Common.{◌≡◌, Option, Result, Ok, Err, sym, ap, subst, ◌∙◌}
+use Rattle.std.proofs.Common.{◌≡◌, None, Option, Result, Ok, Err, sym, ap, subst, ◌∙◌}
 use Rattle.std.specs.Prelude.{IfErr}
 use Rattle.group_history.specs.declared.changes.Change.{Change}
 use Rattle.group_history.specs.declared.refusals.Refusal.{Refusal}
@@ -12,7 +12,7 @@ use Rattle.answered.specs.Answered.{IsLinearized}
 use Rattle.answered.specs.Changes.{change_read}
 use Rattle.head_word.specs.Marks.{Known}
 use Rattle.group_steps.specs.Causes.{HasCause}
-use Rattle.group_steps.specs.Leaving.{Frees}
+use Rattle.group_steps.specs.Leaving.{Frees, spared}
 use Rattle.rebase.specs.Asking.{change_wanted, end_bytes_reply}
 use Rattle.rebase.proofs.Causing.{frees_none}
 use Rattle.rebase.proofs.Unread.{unread, unread_cause, unread_changes}
@@ -57,15 +57,29 @@ returns-in-Err-clause-cause g c =
     (sym c.refuse.ensures.err)
     (unread_cause means reused old.last asked old.seat new.seat c.args.body.now c.in-Err.e c.in-Err.ensures.read)
 
+pub returns-in-Ok-response-clause-frees : goal.returns-in-Ok-response-clause-frees
+returns-in-Ok-response-clause-frees g c r =
+    let k = c.args.ticket.now.cookie in let reply = c.end_applied.result in
+    let read = c.in-Ok.ensures.read ∙ ap Ok c.in-Ok-response.is in
+    subst (λ (a : Result Response Refusal). Frees (change_wanted k a) (spared reply) c.args.self.now.seat
+    c.end_applied.new.self.seat (change_read k a reply)) (sym read) (c.end_applied.ensures.frees r)
+
+pub returns-in-StateNotFound-clause-frees : goal.returns-in-StateNotFound-clause-frees
+returns-in-StateNotFound-clause-frees g c r =
+    let k = c.args.ticket.now.cookie in let reply = c.end_unknown.result in
+    let read = c.in-Ok.ensures.read ∙ ap Ok c.in-StateNotFound.is in
+    subst (λ (a : Result Response Refusal). Frees (change_wanted k a) (spared reply) c.args.self.now.seat
+    c.end_unknown.new.self.seat (change_read k a reply)) (sym read) (c.end_unknown.ensures.frees r)
+
 pub returns-in-Err-clause-frees : goal.returns-in-Err-clause-frees
 returns-in-Err-clause-frees g c r =
-    let old = c.args.self.now in let new = c.refuse.new.self in let slots = old.group.group.table.sizes.slots in
-    let k = c.args.ticket.now.cookie in let body = c.args.body.now in
-    subst (λ (w : Result Ended Refusal). Frees slots old.seat new.seat (change_read k (answer_to body) w))
+    let old = c.args.self.now in let new = c.refuse.new.self in
+    let k = c.args.ticket.now.cookie in let body = c.args.body.now in let asked = change_wanted k (answer_to body) in
+    subst (λ (w : Result Ended Refusal). Frees asked (spared w) old.seat new.seat (change_read k (answer_to body) w))
     (sym c.refuse.ensures.err)
-    (subst (λ (o : Option Change). Frees slots old.seat new.seat o)
+    (subst (λ (o : Option Change). Frees asked 1 old.seat new.seat o)
     (sym (unread_changes k body c.in-Err.e c.in-Err.ensures.read))
-    (frees_none slots old.seat new.seat (c.refuse.ensures.stays.0.looked.calm r)))
+    (frees_none g.S.Slots.reused asked 1 old.seat new.seat c.refuse.ensures.stays.0.looked r))
 
 pub returns-in-Ok-response-clause-looked : goal.returns-in-Ok-response-clause-looked
 returns-in-Ok-response-clause-looked g c none =
@@ -85,10 +99,11 @@ returns-in-Err-clause-looked g c none = c.refuse.ensures.stays.0.looked
 
 pub returns-in-VersionNotSupported-clause-frees : goal.returns-in-VersionNotSupported-clause-frees
 returns-in-VersionNotSupported-clause-frees g c r =
-    let old = c.args.self.now in let new = c.end_unsupported.new.self in let slots = old.group.group.table.sizes.slots in
+    let old = c.args.self.now in let new = c.end_unsupported.new.self in let reply = c.end_unsupported.result in
     let k = c.args.ticket.now.cookie in
     let read : answer_to c.args.body.now ≡ Ok
     (response.VersionNotSupported c.in-VersionNotSupported.kind) = c.in-Ok.ensures.read ∙ ap Ok
     c.in-VersionNotSupported.is in
-    subst (λ (a : Result Response Refusal). Frees slots old.seat new.seat (change_read k a c.end_unsupported.result))
-    (sym read) (frees_none slots old.seat new.seat (c.end_unsupported.ensures.stays.0.looked.calm r))
+    subst (λ (a : Result Response Refusal). Frees (change_wanted k a) (spared reply) old.seat new.seat
+    (change_read k a reply)) (sym read)
+    (frees_none g.S.Slots.reused None (spared reply) old.seat new.seat c.end_unsupported.ensures.stays.0.looked r)

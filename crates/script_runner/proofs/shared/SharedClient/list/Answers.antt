@@ -7,7 +7,6 @@ use Rattle.answered.specs.Answered.{IsLinearized}
 use Rattle.group_steps.specs.Causes.{HasCause}
 use Rattle.group_steps.specs.Missing.{IsMissedOrDry}
 use Rattle.rebase.specs.Calls.{caller_of, change_of, reply_to}
-use Rattle.rebase.specs.Clients.{Grouped}
 use Rattle.rebase.specs.declared.calls.Call.TheVariants as call
 use Rattle.script_runner.specs.Callers.{reply_of_list}
 use Rattle.script_runner.specs.Inside.Printing.{HasRows}
@@ -31,7 +30,6 @@ returns-in-Ok-clause-reply g c =
         caller = same_caller old new stays.0.client stays.1;
         later = stays.0.looked.seat.later;
         watches = refl;
-        slots = ap (λ (h : Grouped). h.group.table.sizes.slots) stays.0.client.0;
         looked = λ reading. stays.0.looked;
         cause = tt;
         frees = λ changing. absurd (cc changing);
@@ -58,7 +56,6 @@ returns-in-Err-clause-reply g c =
         caller = same_caller old new stays.0.client stays.1;
         later = stays.0.looked.seat.later;
         watches = refl;
-        slots = ap (λ (h : Grouped). h.group.table.sizes.slots) stays.0.client.0;
         looked = λ reading. stays.0.looked;
         cause = subst (λ (r : Result (Unit {0}) Refusal). IfErr (reply_of_list rs r)
             (HasCause g.M.Means.means ⊤ old.last None old.seat new.seat)) c.in-Err.is

@@ -5,7 +5,6 @@ use Rattle.rebase.specs.Asking.{is_passing}
 use Rattle.answered.specs.Changes.{change_made, change_read}
 use Rattle.pull_patch.specs.Grammar.{answer_to}
 use Rattle.rebase.specs.Calls.{asked_mutation, caller, caller_of, change_of, is_reading, last_after, reply_to}
-use Rattle.rebase.specs.Clients.{Grouped}
 use Rattle.rebase.specs.Replies.{ended, id, reply_seen}
 use Rattle.rebase.specs.declared.calls.Call.TheVariants as call
 use Rattle.rebase.specs.declared.calls.Reply.TheVariants as reply
@@ -36,11 +35,10 @@ returns-in-Mutate-clause-reply g c =
           ∙ sym (ap (last_after old.last) is));
       later = acts.seat.later;
       watches = refl;
-      slots = ap (λ (h : Grouped). h.group.table.sizes.slots) acts.client.0;
       looked = λ reading. absurd (cc (sym reading ∙ ap is_reading c.in-Mutate.is));
       cause = cause_told id g.M.Means.means (caller_of old) c.args.call (call.Mutate c.in-Mutate.m) c.mutate.result seen
           old.seat new.seat c.in-Mutate.is is c.mutate.ensures.cause;
-      frees = λ changing. frees_told old.group.group.table.sizes.slots (caller_of old) c.args.call
+      frees = λ changing. frees_told (caller_of old) c.args.call
           (call.Mutate c.in-Mutate.m) seen (map_ok id c.mutate.result)
           (change_made (asked_mutation (caller_of old) c.in-Mutate.m) c.mutate.result) old.seat new.seat c.in-Mutate.is is
           (ap (change_made (asked_mutation (caller_of old) c.in-Mutate.m)) (id_shown c.mutate.result))
@@ -68,12 +66,11 @@ returns-in-EndPull-clause-reply g c =
           (sym (ap (last_after old.last) is ∙ last_kept old.last c.end_pull.result));
       later = acts.0.seat.later;
       watches = refl;
-      slots = ap (λ (h : Grouped). h.group.table.sizes.slots) acts.0.client.0;
       looked = λ reading. absurd (cc (sym reading ∙ ap is_reading c.in-EndPull.is));
       cause = cause_told ended g.M.Means.means (caller_of old) c.args.call
           (call.EndPull c.in-EndPull.ticket c.in-EndPull.body) c.end_pull.result seen old.seat new.seat c.in-EndPull.is is
           c.end_pull.ensures.cause;
-      frees = λ changing. frees_told old.group.group.table.sizes.slots (caller_of old) c.args.call
+      frees = λ changing. frees_told (caller_of old) c.args.call
           (call.EndPull c.in-EndPull.ticket c.in-EndPull.body) seen (map_ok ended c.end_pull.result)
           (change_read c.in-EndPull.ticket.now.cookie (answer_to c.in-EndPull.body.now) c.end_pull.result) old.seat
           new.seat c.in-EndPull.is is (ap (change_read c.in-EndPull.ticket.now.cookie

@@ -1,0 +1,4 @@
+-- Each goal of a reading is found by search. Where an edit gives it another exit, the edit's answer stands here:
+-- its goals,
+-- the goal of the exit,
+-- and a term that doesn't fit, so that nothing is searched.
