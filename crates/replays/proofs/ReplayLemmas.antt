@@ -1,6 +1,6 @@
 -- What stays where a draft grows, and what mutations leave that are replayed one after the other.
 use Rattle.std.proofs.Common.{◌≡◌, ℕ, ◌+◌, ◌<◌, List, [], ◌∷◌, ◌++◌, take, get_or, length, sym, ap, ◌∙◌}
-use Rattle.std.proofs.Common.{append_assoc}
+use Rattle.std.proofs.Common.{Bool, true, false, refl, append_assoc, append-nil}
 use mathlib.Core.List.{IsPrefix}
 use Rattle.std.proofs.lemmas.List.{take_more}
 use Rattle.group_history.specs.declared.mutations.Mutation.{Mutation}
@@ -17,6 +17,7 @@ use Rattle.map_chunks.specs.Places.{with_nodes}
 use Rattle.map_nodes.proofs.FreezeLemmas.{nodes-grown}
 use Rattle.commit_graph.proofs.Spelled.{version-grown, snapshot-grown, map-grown}
 use Rattle.replays.specs.Chaining.{HasTip}
+use Rattle.replays.specs.Inside.Undoing.{if_done}
 use Rattle.replays.specs.Pending.{with_more}
 use Rattle.replays.specs.declared.tips.Tip.{Tip}
 
@@ -38,6 +39,14 @@ replayed_next means m xs k x low is =
     let more : take k xs ++ x ∷ [] ≡ take (k + 1) xs =
     ap (λ (y : Mutation). take k xs ++ y ∷ []) is ∙ sym (take_more xs k x low) in
     sym (replayed-append means m (take k xs) (x ∷ [])) ∙ ap (replayed means m) more
+
+-- and where it is left out, since it wasn't done
+pub replayed_done : (means : Meanings) (m n : Entries) (xs : List Mutation) (b : Bool) (x : Mutation)
+    → replayed means m xs ≡ n → (b ≡ false → replayed_once means n x ≡ n)
+    → replayed means m (xs ++ if_done b x) ≡ replayed_once means n x
+replayed_done means m n xs true x is same = replayed-append means m xs (x ∷ [])
+    ∙ ap (λ (r : Entries). replayed_once means r x) is
+replayed_done means m n xs false x is same = ap (replayed means m) (append-nil xs) ∙ is ∙ sym (same refl)
 
 -- the version after all of the mutations, by the last one and those before it
 pub version_last : (means : Meanings) (s : State) (xs before : List Mutation) (x : Mutation) (r : Entries)

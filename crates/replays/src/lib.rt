@@ -9,8 +9,8 @@
 //! commit before it is ever one: these have the pulled map's root. In a map of one leaf a pull that leaves k mutations
 //! takes 3 + k slots so, where a map for each commit takes 2 + 2 k. What a mutator that isn't done wrote is taken back,
 //! by notes of what was there (`undoing.rt`), so there is one map whatever refuses. Notes cost, and a mutator seldom
-//! refuses: none are taken at first, and where one isn't done all are run once more, with notes. So each mutation is
-//! run twice at most.
+//! refuses: none are taken at first, and where one isn't done all are run once more, with notes. A chunk that something
+//! is put back into is a new one: so where that was done, the mutations that were done are run a third time, alone.
 //!
 //! Nothing is drafted in vain: each node is a child of a later one, and the last one is the newest commit
 //! (`AddsNeeded`).

@@ -1,6 +1,6 @@
 //! Local commits: a new mutation, and pending ones that are replayed.
 ghost use Rattle.std.specs.Prelude.{◌≡◌, ◌≢◌, ◌⊎◌, ◌<◌, ◌≤◌, [], ◌∷◌, false, length, Some, Ok, Err, IfOk, IfErr, IfSome};
-ghost use Rattle.std.specs.Prelude.{OnOk};
+ghost use Rattle.std.specs.Prelude.{◌++◌, OnOk};
 ghost use mathlib.Core.List.{IsPrefix};
 ghost use Rattle.group_history.specs.Map.{Entries};
 ghost use Rattle.group_history.specs.Meaning.{Meaning, left_by, meaning_of};
@@ -16,12 +16,14 @@ ghost use Rattle.map_tree.specs.Trees.{tree_map};
 ghost use Rattle.replays.specs.Chaining.{HasTip, IsTip};
 ghost use Rattle.replays.specs.Pending.{with_more};
 ghost use Rattle.replays.specs.Inside.Running.{HasRun};
+ghost use Rattle.replays.specs.Inside.Undoing.{if_done};
 ghost use Rattle.replays.specs.Refusing.{RefusesFor, StopsAs};
 
 use crate::runs::{Run, Setting, replay_on, run_on};
 use crate::tips::{Tip, add_local, add_over};
 use group_history::{CommitChange, Mutation, Mutators, Ran, Ref, Refusal};
 use map_tree::{Chunks, Draft, Tree};
+use std::alloc::AllocError;
 use transactions::NamesContents;
 
 /// Drafts a commit of a new mutation. Refused with NoMutator or Refused where its mutator isn't done at
@@ -109,31 +111,85 @@ fn run_all<C: Chunks + Copy, K: NamesContents, M: Mutators>(
     Ok(Some(tree))
 }
 
+// A tree with the map that mutations leave, those of them that were done, and whether one that wasn't had written.
+#[derive(Drop)]
+struct Undone {
+    tree: Tree,
+    done: Vec<Mutation>,
+    wrote: bool,
+}
+
+fn add_if(done: &mut Vec<Mutation>, is_done: bool, mutation: &Mutation) -> Result<(), AllocError>
+    ensures { OnOk result (done.new.items ≡ done.old.items ++ if_done is_done mutation.now) }
+{
+    if is_done {
+        let mutation = mutation.clone()?;
+        done.push(mutation)?;
+    }
+    Ok(())
+}
+
 // The map that the mutations leave, run in order on the map of a root. What one that isn't done wrote is undone.
 fn run_undoing<C: Chunks + Copy, K: NamesContents, M: Mutators>(
     setting: &Setting<'_, C, M>,
     draft: &Draft,
     root: Ref,
     pending: &[Mutation],
-) -> Result<Tree, Refusal>
+) -> Result<Undone, Refusal>
     requires known { C.contents setting.now.chunks ≡ K.known }
     requires places { (at : Reference) → C.places setting.now.chunks at }
     requires behind { draft.now.first ≡ length K.known }
     requires map { (m : Entries) × (map_at (with_nodes K.known draft.now.nodes) (stamp_of root) ≡ Some m) }
     ensures left { (m : Entries) → map_at (with_nodes K.known draft.now.nodes) (stamp_of root) ≡ Some m
-        → IfOk result (λ tree. tree_map (with_nodes K.known draft.now.nodes) tree
+        → IfOk result (λ undone. tree_map (with_nodes K.known draft.now.nodes) undone.tree
         ≡ Some (map_after M.means m pending.now)) }
+    ensures done { (m : Entries) → map_at (with_nodes K.known draft.now.nodes) (stamp_of root) ≡ Some m
+        → IfOk result (λ undone. map_after M.means m undone.done.items ≡ map_after M.means m pending.now) }
     ensures err { IfErr result (λ e. (e ≡ NoMemory) ⊎ StopsAs C.stops e) }
 {
     let mut tree = Tree::at(root);
+    let mut done = Vec::new(setting.alloc);
+    let mut wrote = false;
     for mutation in pending {
-        tree = replay_on::<C, K, M>(setting, draft, tree, mutation)?;
+        let run = replay_on::<C, K, M>(setting, draft, tree, mutation)?;
+        add_if(&mut done, run.done, mutation)?;
+        wrote |= run.wrote;
+        tree = run.tree;
     }
-    Ok(tree)
+    Ok(Undone { tree, done, wrote })
+}
+
+// The same map, in new chunks only where one that was done wrote: these are run once more, if another one wrote too.
+fn run_done<C: Chunks + Copy, K: NamesContents, M: Mutators>(
+    setting: &Setting<'_, C, M>,
+    draft: &Draft,
+    root: Ref,
+    undone: Undone,
+) -> Result<Tree, Refusal>
+    requires known { C.contents setting.now.chunks ≡ K.known }
+    requires places { (at : Reference) → C.places setting.now.chunks at }
+    requires behind { draft.now.first ≡ length K.known }
+    requires map { (m : Entries) × (map_at (with_nodes K.known draft.now.nodes) (stamp_of root) ≡ Some m) }
+    requires left { (m : Entries) → map_at (with_nodes K.known draft.now.nodes) (stamp_of root) ≡ Some m
+        → tree_map (with_nodes K.known draft.now.nodes) undone.tree ≡ Some (map_after M.means m undone.done.items) }
+    ensures left { (m : Entries) → map_at (with_nodes K.known draft.now.nodes) (stamp_of root) ≡ Some m
+        → IfOk result (λ tree. tree_map (with_nodes K.known draft.now.nodes) tree
+        ≡ Some (map_after M.means m undone.done.items)) }
+    ensures err { IfErr result (λ e. (e ≡ NoMemory) ⊎ StopsAs C.stops e) }
+{
+    let Undone { tree, done, wrote } = undone;
+    if !wrote {
+        return Ok(tree);
+    }
+    match run_all::<C, K, M>(setting, draft, root, &done)? {
+        Some(clean) => Ok(clean),
+        None => Ok(tree),
+    }
 }
 
 // The map that the mutations leave, run in order on the map of a root. A note costs half as much as a run of a small
-// mutator: none is taken at first, and where one isn't done all are run once more, with notes.
+// mutator: none is taken at first, and where one isn't done all are run once more, with notes. Chunks that are put back
+// are new ones. So where something was put back, those that were done are run a third time, alone.
 fn run_pending<C: Chunks + Copy, K: NamesContents, M: Mutators>(
     setting: &Setting<'_, C, M>,
     draft: &Draft,
@@ -151,7 +207,10 @@ fn run_pending<C: Chunks + Copy, K: NamesContents, M: Mutators>(
 {
     match run_all::<C, K, M>(setting, draft, root, pending)? {
         Some(tree) => Ok(tree),
-        None => run_undoing::<C, K, M>(setting, draft, root, pending),
+        None => {
+            let undone = run_undoing::<C, K, M>(setting, draft, root, pending)?;
+            run_done::<C, K, M>(setting, draft, root, undone)
+        }
     }
 }
 

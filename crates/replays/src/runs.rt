@@ -1,5 +1,5 @@
 //! A run of a mutator on a tree over nodes that are placed or drafted.
-ghost use Rattle.std.specs.Prelude.{◌≡◌, ◌⊎◌, Some, IsSome, IfOk, IfErr, length};
+ghost use Rattle.std.specs.Prelude.{◌≡◌, ◌⊎◌, Some, IsSome, IfOk, IfErr, length, true, false};
 ghost use Rattle.group_history.specs.declared.mutators.Stop.TheVariants as stop;
 ghost use Rattle.group_history.specs.Ran.{RunsAs};
 ghost use Rattle.group_history.specs.declared.refs.Ref.{Ref as Reference};
@@ -96,6 +96,24 @@ pub fn run_on<'a, C: Chunks + Copy, K: NamesContents, M: Mutators>(
     run_known::<Staged<'a, C, K>, Brand, M>(setting.alloc, staged, tree, setting.mutators, mutation)
 }
 
+/// A tree after a replay: whether the mutator was done, and if not, whether it had written before.
+#[derive(Drop)]
+pub(crate) struct Replayed {
+    pub(crate) tree: Tree,
+    pub(crate) done: bool,
+    pub(crate) wrote: bool,
+}
+
+fn kept(tree: Tree) -> Replayed
+    ensures { (result.tree ≡ tree) × (result.done ≡ true) }
+{
+    Replayed {
+        tree,
+        done: true,
+        wrote: false,
+    }
+}
+
 // Runs a mutation's mutator on a tree. What one that isn't done wrote is undone.
 fn replay_known<C: Chunks + Drop, K: NamesContents, S: NamesMap, M: Mutators>(
     alloc: Global,
@@ -103,18 +121,27 @@ fn replay_known<C: Chunks + Drop, K: NamesContents, S: NamesMap, M: Mutators>(
     tree: Tree,
     mutators: &M,
     mutation: &Mutation,
-) -> Result<Tree, Refusal>
+) -> Result<Replayed, Refusal>
     requires known { C.contents chunks ≡ K.known }
     requires map { tree_map K.known tree ≡ Some S.start }
     requires places { AreAll (C.places chunks) (tree_places tree) }
-    ensures left { IfOk result (λ left. tree_map K.known left ≡ Some (replayed_once M.means S.start mutation.now)) }
+    ensures left { IfOk result (λ left. tree_map K.known left.tree
+        ≡ Some (replayed_once M.means S.start mutation.now)) }
+    ensures same { IfOk result (λ left. left.done ≡ false → replayed_once M.means S.start mutation.now ≡ S.start) }
     ensures err { IfErr result (λ e. (e ≡ NoMemory) ⊎ StopsAs C.stops e) }
 {
     let view = WriteTx::new(alloc, Fixed::<C, K>::new(chunks), tree);
     let mut view = Undoing::<WriteTx<Fixed<C, K>>, S>::new(alloc, view);
     match run_over(alloc, mutators, mutation, &mut view)? {
-        Ran::Done => Ok(tree_of(view.into_view())),
-        Ran::Unknown | Ran::Refused(_) => Ok(tree_of(view.undo()?)),
+        Ran::Done => Ok(kept(tree_of(view.into_view()))),
+        Ran::Unknown | Ran::Refused(_) => {
+            let wrote = view.has_notes();
+            Ok(Replayed {
+                tree: tree_of(view.undo()?),
+                done: false,
+                wrote,
+            })
+        }
     }
 }
 
@@ -124,14 +151,16 @@ pub(crate) fn replay_on<'a, C: Chunks + Copy, K: NamesContents, M: Mutators>(
     draft: &'a Draft,
     tree: Tree,
     mutation: &Mutation,
-) -> Result<Tree, Refusal>
+) -> Result<Replayed, Refusal>
     requires known { C.contents setting.now.chunks ≡ K.known }
     requires places { (at : Reference) → C.places setting.now.chunks at }
     requires behind { draft.now.first ≡ length K.known }
     requires map { IsSome (tree_map (with_nodes K.known draft.now.nodes) tree) }
     ensures left { (m : Entries) → tree_map (with_nodes K.known draft.now.nodes) tree ≡ Some m
-        → IfOk result (λ left. tree_map (with_nodes K.known draft.now.nodes) left
+        → IfOk result (λ left. tree_map (with_nodes K.known draft.now.nodes) left.tree
         ≡ Some (replayed_once M.means m mutation.now)) }
+    ensures same { (m : Entries) → tree_map (with_nodes K.known draft.now.nodes) tree ≡ Some m
+        → IfOk result (λ left. left.done ≡ false → replayed_once M.means m mutation.now ≡ m) }
     ensures err { IfErr result (λ e. (e ≡ NoMemory) ⊎ StopsAs C.stops e) }
 {
     let staged = Staged::<'a, C, K>::new(setting.chunks, draft);

@@ -3,7 +3,7 @@
 //! What was at a key is noted before the key is written, the newest note last. The type's invariant is that the notes,
 //! put back the newest first, make the map of the start again. A run of a mutator hands back the view alone, so that
 //! map is named by the type: `K` stands for it.
-ghost use Rattle.std.specs.Prelude.{◌≡◌, ◌⊎◌, [], ◌∷◌, ◌++◌, IfOk, IfErr, OnOk, OnErr};
+ghost use Rattle.std.specs.Prelude.{◌≡◌, ◌⊎◌, [], ◌∷◌, ◌++◌, false, IfOk, IfErr, OnOk, OnErr};
 ghost use Rattle.std.specs.Coded.{codes};
 ghost use Rattle.std.specs.FinMap as finite;
 ghost use Rattle.group_history.specs.declared.mutators.Stop.TheVariants.{NoMemory};
@@ -79,6 +79,13 @@ impl<V: WriteView + Drop, K: NamesMap> Undoing<V, K> {
         let there = self.view.get(key)?;
         let key = Text::new(self.alloc, key)?;
         Ok(add_note(&mut self.before, key, there)?)
+    }
+
+    /// Whether anything was noted.
+    pub(crate) fn has_notes(&self) -> bool
+        ensures { result ≡ false → self.now.before.items ≡ [] }
+    {
+        !self.before.is_empty()
     }
 
     /// The view as it is.

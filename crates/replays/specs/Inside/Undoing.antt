@@ -1,7 +1,8 @@
 -- What keys had before they were written, and the map with all of it put back.
-use Rattle.std.specs.Prelude.{List, [], ◌∷◌, Option, Some, None}
+use Rattle.std.specs.Prelude.{Bool, true, false, List, [], ◌∷◌, Option, Some, None}
 use Rattle.std.specs.Coded.{Coded, coded_list, coded_ℕ}
 use Rattle.std.specs.FinMap as finite
+use Rattle.group_history.specs.declared.mutations.Mutation.{Mutation}
 use Rattle.group_history.specs.Map.{Bytes, Entries}
 
 -- two maps can be told apart, so a type may keep that they are equal
@@ -17,3 +18,8 @@ with_there m key (Some value) = finite.insert m key value
 abbrev pub undone : List (Bytes × Option Bytes) → Entries → Entries
 undone [] m = m
 undone (note ∷ newer) m = with_there (undone newer m) note.0 note.1
+
+-- a mutation, if it was done
+abbrev pub if_done : Bool → Mutation → List Mutation
+if_done true x = x ∷ []
+if_done false x = []
