@@ -114,6 +114,21 @@ fn kept(tree: Tree) -> Replayed
     }
 }
 
+// The tree with what a mutator that wasn't done wrote undone.
+fn undone<C: Chunks + Drop, K: NamesContents, S: NamesMap>(
+    view: Undoing<WriteTx<Fixed<C, K>>, S>,
+) -> Result<Replayed, Refusal>
+    ensures left { IfOk result (λ left. (tree_map K.known left.tree ≡ Some S.start) × (left.done ≡ false)) }
+    ensures err { IfErr result (λ e. (e ≡ NoMemory) ⊎ StopsAs C.stops e) }
+{
+    let wrote = view.has_notes();
+    Ok(Replayed {
+        tree: tree_of(view.undo()?),
+        done: false,
+        wrote,
+    })
+}
+
 // Runs a mutation's mutator on a tree. What one that isn't done wrote is undone.
 fn replay_known<C: Chunks + Drop, K: NamesContents, S: NamesMap, M: Mutators>(
     alloc: Global,
@@ -134,14 +149,7 @@ fn replay_known<C: Chunks + Drop, K: NamesContents, S: NamesMap, M: Mutators>(
     let mut view = Undoing::<WriteTx<Fixed<C, K>>, S>::new(alloc, view);
     match run_over(alloc, mutators, mutation, &mut view)? {
         Ran::Done => Ok(kept(tree_of(view.into_view()))),
-        Ran::Unknown | Ran::Refused(_) => {
-            let wrote = view.has_notes();
-            Ok(Replayed {
-                tree: tree_of(view.undo()?),
-                done: false,
-                wrote,
-            })
-        }
+        Ran::Unknown | Ran::Refused(_) => undone(view),
     }
 }
 

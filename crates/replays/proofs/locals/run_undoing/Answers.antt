@@ -1,8 +1,8 @@
-use Rattle.std.proofs.Common.{◌≡◌, ◌≤◌, ◌∷◌, ◌++◌, [], false, List, take, length, Some, IsSome, refl, sym, ap, ◌∙◌, subst, arith}
+use Rattle.std.proofs.Common.{◌≤◌, List, take, length, Some, IsSome, refl, sym, ap, ◌∙◌, subst, arith}
 use Rattle.std.proofs.lemmas.List.{take_all}
 use Rattle.group_history.specs.declared.mutations.Mutation.{Mutation}
 use Rattle.group_history.specs.Map.{Entries}
-use Rattle.group_history.specs.State.{replayed, replayed_once}
+use Rattle.group_history.specs.State.{replayed}
 use Rattle.replays.proofs.ReplayLemmas.{replayed_done, replayed_next}
 use Rattle.replays.proofs.locals.run_undoing.Goals as goal
 
