@@ -15,15 +15,16 @@
  * of which giq_message says what it is; nothing was changed then, but that GIQ_STATE_NOT_FOUND closes the group. Each
  * call may be refused with GIQ_NO_MEMORY, at a closed place with GIQ_NO_PLACE, and where it needs a client with
  * GIQ_NO_CLIENT. A call begins anew where others are in its way, 1,000,000 times at the most; then it is refused with
- * GIQ_MOVED, GIQ_BUSY or GIQ_GONE.
+ * GIQ_MOVED, GIQ_BUSY or GIQ_GONE. GIQ_STAMPS comes only where all of a group's 2^40 stamps but 2^32 are drawn: a
+ * try of a change draws one for each commit and each chunk that it makes.
  *
  * Mutators of the program's own. A group that is opened with own_mutators has no others. Then a mutation, and an end of
  * a pull where mutations stay pending, answer GIQ_ASKED: the program runs the mutator on the run's map, by the calls
  * giq_asked_name to giq_draft_del, and says with giq_ran how that ended; giq_ran answers GIQ_ASKED for the next run, or
  * what the change came to. Until then each other call of the place is refused with GIQ_ASKS, but that the client may
- * leave and the place be closed: then, and by giq_give_up, the change is given up, and nothing was changed. A slot is
- * kept from other clients meanwhile, so a run is no place to wait. Where others changed the group first, all runs are
- * asked for anew.
+ * leave and the place be closed: then, and by giq_give_up, the change is given up, and nothing was changed. As long
+ * as a run is asked for, the slots that other clients let go are kept from use, so a long run can make a busy group
+ * full: a run is no place to wait. Where others changed the group first, all runs are asked for anew.
  *
  * Threads. Any thread may open a group. A place is used by one thread at a time, its closing too; it may go from one
  * thread to another where the program orders their calls (a lock, a queue, a join). Places of one group are used by
@@ -93,7 +94,7 @@ enum giq_number {
     GIQ_BUSY = -3,
     /* a slot was given again while it was looked for: call again */
     GIQ_GONE = -4,
-    /* no slot is free for the change: close readers, end a pull that confirms, or open a larger group */
+    /* no slot is free for the change: close readers, pull what confirms or clears, or open a larger group */
     GIQ_FULL = -5,
     /* the group has too few stamps left: open a new group */
     GIQ_STAMPS = -6,
@@ -299,7 +300,7 @@ static inline const char *giq_message(int32_t number) {
     case GIQ_GONE:
         return "a slot was given again while it was looked for: call again";
     case GIQ_FULL:
-        return "no slot is free for the change: close readers, end a pull that confirms, or open a larger group";
+        return "no slot is free for the change: close readers, pull what confirms or clears, or open a larger group";
     case GIQ_STAMPS:
         return "the group has too few stamps left: open a new group";
     case GIQ_STALE:
@@ -381,7 +382,7 @@ static inline int64_t giq_check_rules(giq_bytes rules, char *text, size_t size) 
 /* Opens a group at `count` places, 1 to GIQ_MAX_PLACES, none of which is open; the group is in memory and starts empty.
  * Where it is refused the places are closed: GIQ_BAD_VERSION (see giq_is_of_version), GIQ_BAD_UUID, GIQ_NOT_UTF8,
  * GIQ_BAD_RULES (see giq_check_rules; also rules beside mutators of the program's own), GIQ_OUT_OF_RANGE (slots, places
- * or own_mutators), GIQ_NO_MEMORY. */
+ * or own_mutators), GIQ_NO_MEMORY. What is proved allows GIQ_BUSY and GIQ_FULL too; no test met them here. */
 static inline int32_t giq_open_places(const giq_opening *with, giq_place *places, size_t count) {
     if (count != 0) memset(places, 0, count * sizeof *places);
     if (!giq_is_of_version()) return GIQ_BAD_VERSION;

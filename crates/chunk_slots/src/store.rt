@@ -103,7 +103,7 @@ pub trait Slots<M: Means>: Sync {
         ensures outside { reused → (serves self.now).sizes.slots ≤ slot → view seat.new ≡ view seat.old }
         ensures kept { reused → IsButRetired (view seat.old) (view seat.new) };
 
-    /// Pins the seat, so that no slot that the head reaches from now on is used again.
+    /// Pins the seat: while the pin stays, no slot that the head reaches from then on is used again.
     fn pin(&self, seat: &mut Self::Seat, tries: u32) -> Result<(), Busy>
         requires seat { home seat.old ≡ serves self.now }
         ensures seat { home seat.new ≡ serves self.now }

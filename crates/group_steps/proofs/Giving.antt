@@ -46,10 +46,10 @@ use Rattle.group_steps.specs.Changing.{EndsAt, FreesTry}
 use Rattle.group_steps.specs.Leaving.{AreLeft, FreesIn, FreesNone, GivesBack, MayTake}
 use Rattle.group_steps.specs.Missing.{IsStop}
 use Rattle.group_steps.specs.Proposing.{IsProposalFor, asked_reply, change_asked, kind_for}
-use Rattle.group_steps.specs.declared.changing.Tried.{Tried}
-use Rattle.group_steps.specs.declared.changing.Tried.TheVariants as tried
+use Rattle.group_steps.specs.declared.trying.Tried.{Tried}
+use Rattle.group_steps.specs.declared.trying.Tried.TheVariants as tried
 use Rattle.group_steps.specs.declared.proposing.Proposal.{Proposal}
-use Rattle.group_steps.proofs.Ending.{never_asked}
+use Rattle.group_steps.proofs.Judging.{never_asked}
 
 -- WHAT IS GIVEN BACK
 

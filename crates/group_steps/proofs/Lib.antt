@@ -1,9 +1,12 @@
 pub mod Drafting
-pub mod Ending
+pub mod Judging
 pub mod Finding
 pub mod Making
 pub mod Rooting
-pub mod Trying
+pub mod Answering
 pub mod Stopping
 pub mod Giving
 mod Pinning
+pub mod Running
+pub mod Since
+mod Going

@@ -16,8 +16,8 @@ use Rattle.reader_claims.specs.Seats.{kind_end}
 use Rattle.commit_graph.specs.Seats.{Seated}
 use Rattle.group_steps.specs.Leaving.{FreesFor, FreesNone}
 use Rattle.group_steps.specs.Proposing.{HasLast, asked_reply, change_asked, kind_for}
-use Rattle.group_steps.specs.declared.changing.Tried.{Tried}
-use Rattle.group_steps.specs.declared.changing.Tried.TheVariants as tried
+use Rattle.group_steps.specs.declared.trying.Tried.{Tried}
+use Rattle.group_steps.specs.declared.trying.Tried.TheVariants as tried
 
 -- At the state of the head: the change was made, or nothing was to be changed, or others moved the head.
 abbrev pub EndsTry : Meanings → Known → Known → Ref → State → ℕ → Change → Tried → Type 0

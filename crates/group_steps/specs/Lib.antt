@@ -9,3 +9,6 @@ pub mod Changing
 pub mod Leaving
 pub mod Causes
 pub mod Rooting
+pub mod Runs
+pub mod Going
+pub mod Tries

@@ -20,7 +20,7 @@ use Rattle.host_places.specs.declared.outcomes.Outcome.TheVariants.{Done}
 use Rattle.host_places.specs.Drafts.{AsksRun, ByRun, ReadsMap, Replies, WritesDraft, WritesMap}
 use Rattle.host_places.specs.Inside.Sitting.{IsAt, IsStepAt, Stands}
 use Rattle.host_places.specs.Places.{PlaceState, with_asking}
-use Rattle.host_places.specs.Runs.{AsksNext, EndsRuns, IsBegunAt}
+use Rattle.host_places.specs.Runs.{AsksNext, EndsRuns, IsBegunAt, none_own}
 use Rattle.host_places.specs.Told.{Told, dry, told}
 use Rattle.host_places.proofs.Moving.{at_later, at_prop}
 use Rattle.host_places.proofs.Telling.{at_some}
@@ -74,7 +74,8 @@ tells_all (asked.Ended c reply) P Q R E e q r = e
 
 -- the next run is asked for, or the change ended, whichever client its call began with
 pub tells_next : (means : Meanings) {M S T : Type 0} (step : Asked M S T) (was : UnderWay) (ran : Ran)
-    → RunTold means step was → Tells step (Follows was ran) (λ c r. Unit {0}) → Tells step IsUnwritten (λ c r. Unit {0})
+    → RunTold means step was → Tells step (Follows none_own means was ran) (λ c r. Unit {0})
+    → Tells step (IsUnwritten none_own) (λ c r. Unit {0})
     → Tells step (AsksNext means was ran) (λ client reply. EndsRuns means was client (map_ok reply_seen reply))
 tells_next means (asked.Run a) was ran told next fresh = record { follows = next; fresh = fresh; asked = told }
 tells_next means (asked.Ended c r) was ran told next fresh = told

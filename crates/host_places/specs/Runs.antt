@@ -1,5 +1,5 @@
 -- A run that a place's change asks its host for.
-use Rattle.std.specs.Prelude.{◌≡◌, ⊤, Option, Some, None, Result, Ok, Err}
+use Rattle.std.specs.Prelude.{◌≡◌, ⊤, Bool, false, Option, Some, None, Result, Ok, Err}
 use Rattle.group_history.specs.declared.changes.Change.{Change}
 use Rattle.group_history.specs.declared.changes.Change.TheVariants.{Pulled}
 use Rattle.group_history.specs.declared.mutators.Ran.{Ran}
@@ -20,21 +20,26 @@ use Rattle.rebase.specs.Running.{BeganAs, EndsCall, Follows, IsAsked, IsFirst, I
 use Rattle.host_places.specs.declared.outcomes.Outcome.{Outcome}
 use Rattle.host_places.specs.Answers.{tries}
 
+-- a group whose mutators are the host's own runs none itself
+abbrev pub none_own : Bytes → Bool
+none_own name = false
+
 -- The first run is asked for by this change, of a call that began with this client. Nothing is written to its map yet.
 abbrev pub AsksFor : Meanings → ClientState → Change → UnderWay → Type 0
-AsksFor means client change asking = IsAsked means ⊤ tries client change asking × IsFirst asking × IsUnwritten asking
+AsksFor means client change asking = IsAsked means ⊤ tries client change asking × IsFirst none_own asking
+    × IsUnwritten none_own asking
 
 -- and at the end of a pull, by the response that the bytes are
 abbrev pub AsksAtEnd : Meanings → ClientState → Cookie → Bytes → UnderWay → Type 0
 AsksAtEnd means client ticket body asking = ((r : Pull) × (answer_to body ≡ Ok (response.Ok r))
-    × IsAsked means ⊤ tries client (Pulled ticket r) asking) × IsFirst asking × IsUnwritten asking
+    × IsAsked means ⊤ tries client (Pulled ticket r) asking) × IsFirst none_own asking × IsUnwritten none_own asking
 
 -- After a run that ended so, this one is asked for: the one behind it, from the map that it left; or, where others moved
 -- the head first, the first one of a later try. It is of the same change, and of the same call, whichever client that
 -- began with.
 pub record AsksNext (means : Meanings) (was : UnderWay) (ran : Ran) (asking : UnderWay) : Type 0 where
-  pub follows : Follows was ran asking
-  pub fresh : IsUnwritten asking
+  pub follows : Follows none_own means was ran asking
+  pub fresh : IsUnwritten none_own asking
   pub asked : (c : ClientState) → BeganAs means ⊤ c was → IsAsked means ⊤ was.tries c was.change asking
 
 -- or the call ends so, as one that was made at once

@@ -4,10 +4,13 @@
 //! a type parameter, and that the host's runs are those of that meaning is the premise of each run that it tells of.
 ghost use Rattle.std.specs.Prelude.{◌≡◌, Bool, true, false, refl};
 ghost use Rattle.group_history.specs.Meaning.{Meanings, unknown};
+ghost use Rattle.host_places.specs.Runs.{none_own};
 
-use group_history::Means;
+use group_history::{Json, Means, Ran, Reason, Stop, WriteView};
+use rebase::Runs;
 use rule_mutators::{Picked, RuleMutators};
 use script_mutators::ScriptMutators;
+use std::alloc::Global;
 use std::marker::{Brand, PhantomData};
 
 /// Mutators of a group at whose places hosts sit.
@@ -61,6 +64,22 @@ impl<B: PickedMeaning> OwnMutators<B> {
 
 impl<B: PickedMeaning> Means for OwnMutators<B> {
     ghost means = { B.meaning };
+}
+
+/// The group has none of them: each run is asked for.
+impl<B: PickedMeaning + Sync> Runs for OwnMutators<B> {
+    ghost has = { none_own };
+
+    fn run_if_any<V: WriteView>(
+        &self,
+        _alloc: Global,
+        _name: &str,
+        _args: &Json,
+        _why: Reason,
+        _view: &mut V,
+    ) -> Result<Option<Ran>, Stop> {
+        Ok(None)
+    }
 }
 
 impl<B: PickedMeaning + Drop> Changes for OwnMutators<B> {

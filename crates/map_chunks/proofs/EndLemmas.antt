@@ -1,19 +1,21 @@
 -- What chunks with one child each end in.
-use Rattle.std.proofs.Common.{◌≡◌, ◌≤◌, ◌<◌, ◌+◌, ℕ, false, [], ◌∷◌, ◌++◌, Option, Some, None, slice_get, append-nil}
-use Rattle.std.proofs.Common.{refl, sym}
-use Rattle.std.proofs.Common.{ap, ◌∙◌, subst, inr, arith}
+use Rattle.std.proofs.Common.{◌≡◌, ◌<◌, ◌+◌, ℕ, zero, suc, false, [], ◌∷◌, ◌++◌, Option, Some, None, slice_get}
+use Rattle.std.proofs.Common.{append-nil, refl, sym, ap, ◌∙◌, subst, inr, arith}
 use Rattle.std.specs.Prelude.{option_map}
 use mathlib.Core.List.{IsPrefix}
 use Rattle.std.specs.List.{Contains}
 use Rattle.group_history.specs.declared.nodes.Chunk.{Chunk}
 use Rattle.group_history.specs.declared.nodes.Chunk.TheVariants as chunked
+use Rattle.group_history.specs.declared.nodes.Node.{Node}
+use Rattle.group_history.specs.declared.nodes.Node.TheVariants as node
 use Rattle.group_history.specs.declared.refs.Ref.{Ref}
+use Rattle.group_history.specs.Map.{Bytes}
 use Rattle.group_history.specs.Naming.{chunk_content, chunk_children}
 use Rattle.group_history.specs.Refs.{stamp_of}
 use Rattle.group_history.specs.Rows.{Rows}
 use Rattle.group_history.specs.Spelling.{Contents, Segment, segment_at, rows_at}
-use Rattle.group_history.proofs.Lists.{one_here, only_one}
-use Rattle.map_chunks.specs.Ends.{IsNoDeeper}
+use Rattle.group_history.proofs.Lists.{get_more, one_here, only_one}
+use Rattle.map_chunks.specs.Ends.{IsEndUnder, LeadsTo}
 use Rattle.map_chunks.specs.Inside.Ends.{only_ref}
 use Rattle.map_chunks.specs.Places.{AreKept}
 use Rattle.map_chunks.specs.Seeking.{chunk_depth}
@@ -51,6 +53,7 @@ abbrev pub IsOnlyChild : Contents → ℕ → Option Rows → Option Ref → Typ
 IsOnlyChild contents stamp rows None = (chunk_rows contents stamp ≡ rows) × IsWideAt contents stamp
 IsOnlyChild contents stamp rows (Some child) = (stamp_of child < stamp) × (chunk_rows contents (stamp_of child) ≡ rows)
     × ((d : ℕ) × (chunk_depth contents (stamp_of child) ≡ Some d) × (chunk_depth contents stamp ≡ Some (d + 1)))
+    × ((key : Bytes) × (slice_get contents stamp ≡ Some (node.Chunk (chunked.Inner ((key, stamp_of child) ∷ [])))))
 
 pub only_is : (ns : Contents) (k : ℕ) (s : Segment) (c : Chunk Ref) → segment_at ns k ≡ Some s
     → slice_get ns k ≡ Some (chunk_content c) → chunk_rows ns k ≡ Some s.rows
@@ -71,6 +74,7 @@ only_is ns k s c h g r = by c g (opened ns k s c h g)
           chunk_rows-at ns o.depth (stamp_of e.1) p.front p.front_is ∙ ap (λ w. Some w)
               (sym (p.whole ∙ ap (λ w. p.front ++ w) nil ∙ append-nil p.front)),
           (o.depth, depth-at ns o.depth (stamp_of e.1) p.front p.front_is, depth_of ns k s h ∙ ap (λ n. Some n) o.deep),
+          (e.0, g),
         )
     by (chunked.Inner (e ∷ f ∷ es)) g o = (r, wide (chunked.Inner (e ∷ f ∷ es)) g refl)
 
@@ -81,8 +85,29 @@ pub depth-later : (old new : Contents) (k d : ℕ) → IsPrefix old new → chun
 depth-later old new k d p h = let s = segment_deep old k d h in
     depth_of new k s.0 (segment-kept old new k s.0 p s.1) ∙ ap (λ n. Some n) s.2
 
-pub no_deeper : (ns : Contents) (d n : ℕ) (at : Ref) → d ≤ n → IsNoDeeper ns d at → IsNoDeeper ns n at
-no_deeper ns d n at l h = (h.0, h.1, omega (arith, h.2))
+-- what lies at a stamp lies there later
+lies-later : (old new : Contents) (k : ℕ) (n : Node ℕ) → IsPrefix old new → slice_get old k ≡ Some n
+    → slice_get new k ≡ Some n
+lies-later old new k n p h = subst (λ z. slice_get z k ≡ Some n) p.1 (get_more old p.0 k n h)
+
+-- so does what chunks with one child lead to
+pub leads-later : (old new : Contents) (many k : ℕ) (at : Ref) → IsPrefix old new → LeadsTo old many k at
+    → LeadsTo new many k at
+leads-later old new zero k at p h = h
+leads-later old new (suc many) k at p h =
+    (h.0, h.1, lies-later old new k _ p h.2, leads-later old new many h.1 at p h.3)
+
+-- the chunk itself
+pub end_itself : (old new : Contents) (d : ℕ) (at : Ref) → IsPrefix old new → chunk_depth old (stamp_of at) ≡ Some d
+    → IsEndUnder new d (stamp_of at) at
+end_itself old new d at p h = (0, d, omega arith, depth-later old new (stamp_of at) d p h, refl)
+
+-- below a chunk with one child is what is below the child
+pub end_over : (old new : Contents) (d below k : ℕ) (key : Bytes) (child at : Ref) → IsPrefix old new → below + 1 ≡ d
+    → slice_get old k ≡ Some (node.Chunk (chunked.Inner ((key, stamp_of child) ∷ [])))
+    → IsEndUnder new below (stamp_of child) at → IsEndUnder new d k at
+end_over old new d below k key child at p e g h =
+    (suc h.0, h.1, omega (arith, h.2, e), h.3, (key, stamp_of child, lies-later old new k _ p g, h.4))
 
 -- REFERENCES
 

@@ -1,6 +1,7 @@
 pub mod AnswerLemmas
 mod ChildLemmas
 mod DepthLemmas
+pub mod LineLemmas
 mod LookLemmas
 pub mod EmptyLemmas
 pub mod EndLemmas

@@ -114,12 +114,12 @@ Opened ns k s (Leaf rows) = OpenLeaf s rows
 Opened ns k s (Inner kids) = OpenInner ns k s kids
 
 -- a chunk of so many entries
-record Sized (n depth : ℕ) (rows : Rows) (s : Segment) : Type 0 where
-  fit : n ≤ 16
-  depth_is : s.depth ≡ depth
-  rows_is : s.rows ≡ rows
+pub record Sized (n depth : ℕ) (rows : Rows) (s : Segment) : Type 0 where
+  pub fit : n ≤ 16
+  pub depth_is : s.depth ≡ depth
+  pub rows_is : s.rows ≡ rows
 
-sized-is : (n depth : ℕ) (rows : Rows) (s : Segment) → sized n depth rows ≡ Some s → Sized n depth rows s
+pub sized-is : (n depth : ℕ) (rows : Rows) (s : Segment) → sized n depth rows ≡ Some s → Sized n depth rows s
 sized-is n depth rows s h = by (nat_le n 16) refl h
   where
     by : (u : Bool) → nat_le n 16 ≡ u → cond u (Some (record { depth = depth; rows = rows })) None ≡ Some s
@@ -146,7 +146,7 @@ lifted f g k t (e ∷ es) rs h =
       (m.0, r.1),
     )
 
-rows_in-lift : (done whole : List (Option Spelled)) (k d c : ℕ) (v : Rows)
+pub rows_in-lift : (done whole : List (Option Spelled)) (k d c : ℕ) (v : Rows)
     → ((j : ℕ) (y : Spelled) → answer done j ≡ Some y → (j < k) × (answer whole j ≡ Some y))
     → rows_in done d c ≡ Some v → (c < k) × (rows_in whole d c ≡ Some v)
 rows_in-lift done whole k d c v t h =

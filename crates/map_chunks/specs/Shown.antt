@@ -1,5 +1,5 @@
 -- What a chunk of a draft shows, given what is placed.
-use Rattle.std.specs.Prelude.{ℕ, List, [], ◌∷◌, map, Option, Some, None, T, option_map, if◌then◌else◌}
+use Rattle.std.specs.Prelude.{ℕ, ◌+◌, List, [], ◌∷◌, map, Option, Some, None, T, option_map, if◌then◌else◌}
 use Rattle.std.specs.Ordering.{nat_cmp}
 use Rattle.std.specs.Cmp.Lexicographic.{slice_cmp}
 use Rattle.std.specs.FinMap as finite
@@ -53,13 +53,22 @@ pub data Mark : Type 0 where
   own : ℕ → Shape → Mark
   placed : ℕ → ℕ → Ref → Mark
 
+-- how many of these are own ones
+abbrev pub owned : List Mark → ℕ
+owned [] = 0
+owned (own at keys ∷ ms) = owned ms + 1
+owned (placed at deep ref ∷ ms) = owned ms
+
 -- A chunk of a draft as clauses see it: how deep it is, a leaf being 1 deep; how many keys it has; its pieces in order;
--- how deep its own chunks are nested; how many chunks it is, itself counted; and which these are, each before those
--- below it.
+-- how deep its own chunks are nested; and which chunks it is, itself and placed ones included, each before those below
+-- it.
 pub record Seen : Type 0 where
   pub depth : ℕ
   pub entries : ℕ
   pub pieces : List Piece
   pub height : ℕ
-  pub fresh : ℕ
   pub marks : List Mark
+
+-- how many new chunks it is, itself counted
+abbrev pub fresh : Seen → ℕ
+fresh n = owned n.marks

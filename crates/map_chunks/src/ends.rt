@@ -2,7 +2,7 @@
 ghost use Rattle.std.specs.Prelude.{◌≡◌, ◌⊎◌, ℕ, [], ◌∷◌, Some, IfOk, IfErr, IsSome};
 ghost use Rattle.group_history.specs.Refs.{stamp_of};
 ghost use Rattle.group_history.specs.declared.mutators.Stop.TheVariants.{NoMemory};
-ghost use Rattle.map_chunks.specs.Ends.{IsEnd, IsNoDeeper};
+ghost use Rattle.map_chunks.specs.Ends.{IsEnd, IsEndUnder};
 ghost use Rattle.map_chunks.specs.Inside.Ends.{only_ref};
 ghost use Rattle.map_chunks.specs.Places.{Grows};
 ghost use Rattle.map_chunks.specs.Seeking.{chunk_depth};
@@ -37,7 +37,7 @@ pub fn end_placed<C: Chunks>(chunks: &mut C, at: Ref) -> Result<Ref, Stop>
     ensures place { IfOk result (C.places chunks.new) }
     ensures end { IfOk result (IsEnd (C.contents chunks.new) (chunk_rows (C.contents chunks.old) (stamp_of at))) }
     ensures depth { (d : ℕ) → chunk_depth (C.contents chunks.old) (stamp_of at) ≡ Some d
-        → IfOk result (IsNoDeeper (C.contents chunks.new) d) }
+        → IfOk result (IsEndUnder (C.contents chunks.new) d (stamp_of at)) }
     ensures stopped { IfErr result (λ s. (s ≡ NoMemory) ⊎ C.stops s) }
 {
     match look_at(chunks, at, &mut only_of)? {

@@ -16,7 +16,7 @@
 //!
 //! Decisions. Order is said once of a tree, of all rows of a root; sizes, depths and first keys are part of what a
 //! chunk spells. A draft's nodes stand behind their children (`Draft::push`), since the head's book asks the same, and
-//! what appends nodes says for which references they are needed (`AddsNeeded`). A draft has at most 2^39 nodes, so that
+//! what appends nodes says for which references they are needed (`AddsNeeded`). A draft has at most 2^32 nodes, so that
 //! want of stamps says how many are drawn; one more would be told NoMemory, though no growth was refused, and no
 //! machine holds so many. A scan hands each row to a sink where it lies; keys of a scan stand together, so of a leaf
 //! whose first and last key are in it no other is looked at.

@@ -1,7 +1,6 @@
 -- Which pieces of a draft's own chunks a put leaves alone, and what it makes of a child.
-use Rattle.std.proofs.Common.{◌≡◌, ◌<◌, ◌+◌, ◌-◌, ℕ, List, [], ◌∷◌, ◌++◌, Option, Some, None, length, get_or, set, refl}
-use Rattle.std.proofs.Common.{sym, ap, ◌∙◌, subst, arith, append-nil, append_assoc, nat_cmp, Ordering, Less, Equal}
-use Rattle.std.proofs.Common.{Greater}
+use Rattle.std.proofs.Common.{◌≡◌, ◌<◌, ◌-◌, ℕ, List, [], ◌∷◌, ◌++◌, Option, Some, None, length, get_or, set, refl, sym}
+use Rattle.std.proofs.Common.{ap, ◌∙◌, subst, append-nil, append_assoc, nat_cmp, Ordering, Less, Equal, Greater}
 use Rattle.std.specs.Prelude.{IsSome, option_map}
 use Rattle.std.specs.Cmp.Lexicographic.{slice_cmp}
 use Rattle.std.specs.FinMap.{put}
@@ -23,7 +22,7 @@ use Rattle.map_nodes.specs.Inside.Halves.{half_pieces, lowered, with_half, IsHal
 use Rattle.map_nodes.specs.Inside.Laying.{IsMade}
 use Rattle.map_nodes.specs.Inside.Nodes.{Kid}
 use Rattle.map_nodes.specs.Inside.Puts.{value_in, IsChildPut, IsOwnPut}
-use Rattle.map_nodes.specs.Levels.{seen_levels}
+use Rattle.map_nodes.specs.Levels.{seen_levels, RenewedLater}
 use Rattle.map_nodes.specs.Nodes.{Kids, child_pieces, kids_pieces, row_pieces}
 use Rattle.map_nodes.specs.Others.{ArePutAmong, option_piece}
 use Rattle.map_nodes.specs.declared.nodes.OwnChild.{OwnChild}
@@ -183,13 +182,18 @@ depth_at p below k t =
 pub own_put : (q : Contents) (copies below i : ℕ) (first key v : Bytes) (rows : Option Rows) (kids : List OwnChild)
     (m n : Kid) (half : Option Half) → m.value.depth ≡ below → n.value.depth ≡ below → 0 < length n.value.pieces
     → IsHalf copies below half
-    → IsOwnPut q key v rows m.value.pieces n.value.pieces (m.value.fresh + m.value.depth) n.value.fresh
+    → IsOwnPut q key v rows m.value.pieces n.value.pieces m.value.depth
     (seen_levels m.value) (seen_levels n.value) half
     → IsChildPut q copies below i first key v rows kids (set kids i (Own n)) (Own m) half
 own_put q copies below i first key v rows kids m n half was now filled is u = record {
   done = (n, refl, now, filled, u.shown_is, is);
   others = u.others;
-  renewed = (n, refl, λ there. let r = u.renewed there in (r.0, r.1, omega (arith, r.2, was), r.3));
+  renewed = (
+    n,
+    refl,
+    λ there. let r = u.renewed there in
+        (r.0, r.1, subst (λ w. RenewedLater q w (seen_levels m.value) (seen_levels n.value)) was r.2),
+  );
 }
 
 -- a value put in a placed child, in whose place own chunks stand
@@ -218,8 +222,7 @@ placed_put p q may copies below i first key v kids new at n half pre t is other 
             let r = u.replaced (subst (λ z. IsSome (value_in z key)) (sym same) there) in (
               λ here. other (ap (λ z. value_in z key) same ∙ here),
               r.0,
-              omega (arith, r.1),
-              r.2,
+              r.1,
             ),
       );
     }

@@ -1,22 +1,22 @@
 -- How many own chunks and keys there are once a chunk is changed.
 use Rattle.std.proofs.Common.{◌≡◌, ◌<◌, ◌≤◌, ◌+◌, ◌-◌, ℕ, zero, suc, List, [], ◌∷◌, ◌++◌, Option, Some, None, length}
-use Rattle.std.proofs.Common.{get_or, set, insert, take, drop, min, take-append-drop, length-take, length-drop, sym, ap}
-use Rattle.std.proofs.Common.{◌∙◌, subst, arith, inl, inr, nat_cmp, T}
+use Rattle.std.proofs.Common.{get_or, take, drop, min, length-take, length-drop, refl, sym, ap, ◌∙◌, subst, arith, inl}
+use Rattle.std.proofs.Common.{inr, nat_cmp, T}
 use Rattle.std.specs.Cmp.Lexicographic.{slice_cmp}
 use Rattle.std.specs.FinMap.{put}
 use Rattle.group_history.specs.Map.{Bytes}
-use Rattle.group_history.specs.Rows.{paired, rises, values_of}
-use Rattle.group_history.proofs.Pairs.{values_of-paired}
+use Rattle.group_history.specs.Rows.{paired, rises}
 use Rattle.map_nodes.specs.Inside.Counts.{HasKept}
-use Rattle.map_nodes.specs.Inside.Halves.{with_half}
 use Rattle.map_chunks.specs.Inserting.{ArePairs, Parted}
-use Rattle.map_nodes.specs.Nodes.{Kids, child_fresh, kids_fresh, body_fresh, child_height, kids_height, IsNode}
+use Rattle.map_nodes.specs.Nodes.{body_marks, child_fresh, kids_fresh, kids_marks, sunk, child_height, kids_height}
+use Rattle.map_nodes.specs.Nodes.{IsNode}
 use Rattle.map_chunks.specs.Search.{IsAbsent}
-use Rattle.map_chunks.specs.Shown.{Seen}
+use Rattle.map_chunks.specs.Shown.{fresh, own, owned, placed, Mark, Seen, Shape}
+use Rattle.map_nodes.specs.Levels.{parting}
 use Rattle.map_nodes.specs.declared.nodes.Body.{Body}
 use Rattle.map_nodes.specs.declared.nodes.Body.TheVariants.{Leaf, Inner}
 use Rattle.map_nodes.specs.declared.nodes.OwnChild.{OwnChild}
-use Rattle.map_nodes.specs.declared.nodes.OwnChild.TheVariants.{Own}
+use Rattle.map_nodes.specs.declared.nodes.OwnChild.TheVariants.{Own, Placed}
 use Rattle.map_nodes.specs.declared.nodes.putting.Half.{Half}
 use Rattle.map_nodes.proofs.LeafLemmas.{leaf_put}
 use Rattle.map_chunks.proofs.ListLemmas.{length-inserted, length-paired}
@@ -24,52 +24,32 @@ use Rattle.map_chunks.specs.Wide.{IsWideChunk}
 
 -- CHILDREN
 
-pub fresh-set : (kids : List OwnChild) (i : ℕ) (c y : OwnChild) → i < length kids → c ≡ get_or kids i c
-    → kids_fresh (set kids i y) + child_fresh c ≡ kids_fresh kids + child_fresh y
-fresh-set [] i c y l e = absurd (omega arith)
-fresh-set (k ∷ ks) zero c y l e = let f : child_fresh c ≡ child_fresh k = ap child_fresh e in omega (arith, f)
-fresh-set (k ∷ ks) (suc i) c y l e = let r = fresh-set ks i c y (omega arith) e in omega (arith, r)
+owned-append : (xs ys : List Mark) → owned (xs ++ ys) ≡ owned xs + owned ys
+owned-append [] ys = omega arith
+owned-append (own at keys ∷ xs) ys = omega (arith, owned-append xs ys)
+owned-append (placed at deep ref ∷ xs) ys = owned-append xs ys
 
--- how many own chunks the children of entries are
-abbrev pub entries_fresh : Kids → ℕ
-entries_fresh es = kids_fresh (values_of es)
+owned-sunk : (ms : List Mark) → owned (sunk ms) ≡ owned ms
+owned-sunk [] = refl
+owned-sunk (own at keys ∷ ms) = ap (λ n. n + 1) (owned-sunk ms)
+owned-sunk (placed at deep ref ∷ ms) = owned-sunk ms
 
-fresh-append : (xs ys : Kids) → entries_fresh (xs ++ ys) ≡ entries_fresh xs + entries_fresh ys
-fresh-append [] ys = omega arith
-fresh-append (x ∷ xs) ys = let r = fresh-append xs ys in omega (arith, r)
+pub owned-kids : (below : ℕ) (kids : List OwnChild) → owned (kids_marks below kids) ≡ kids_fresh kids
+owned-kids below [] = refl
+owned-kids below (Placed at ∷ kids) = omega (arith, owned-kids below kids)
+owned-kids below (Own n ∷ kids) =
+    omega (arith, owned-append n.value.marks (kids_marks below kids), owned-kids below kids)
 
-fresh-inserted : (es : Kids) (i : ℕ) (e : Bytes × OwnChild) → i ≤ length es
-    → entries_fresh (insert es i e) ≡ entries_fresh es + child_fresh e.1
-fresh-inserted es zero e l = omega arith
-fresh-inserted [] (suc i) e l = absurd (omega arith)
-fresh-inserted (x ∷ xs) (suc i) e l = let r = fresh-inserted xs i e (omega arith) in omega (arith, r)
+-- a chunk over children
+pub owned-inner : (below : ℕ) (keys : Shape) (kids : List OwnChild)
+    → owned (own 0 keys ∷ sunk (kids_marks below kids)) ≡ kids_fresh kids + 1
+owned-inner below keys kids = ap (λ n. n + 1) (owned-sunk (kids_marks below kids) ∙ owned-kids below kids)
 
-fresh-pairs : (es : Kids) (keys : List Bytes) (kids : List OwnChild) → ArePairs es keys kids
-    → kids_fresh kids ≡ entries_fresh es
-fresh-pairs es keys kids p = ap kids_fresh (sym (values_of-paired keys kids p.1)) ∙ ap entries_fresh p.0
-
-pub fresh-alone : (es : Kids) (nk : List Bytes) (ne : List OwnChild) → Parted es nk ne None
-    → kids_fresh ne ≡ entries_fresh es
-fresh-alone es nk ne h = fresh-pairs es nk ne h.0
-
-pub fresh-halves : (es : Kids) (nk : List Bytes) (ne : List OwnChild) (k2 : List Bytes) (e2 : List OwnChild)
-    → Parted es nk ne (Some (k2, e2)) → kids_fresh ne + kids_fresh e2 ≡ entries_fresh es
-fresh-halves es nk ne k2 e2 h =
-    let a = fresh-pairs (take 8 es) nk ne h.0 in
-    let b = fresh-pairs (drop 8 es) k2 e2 h.1 in
-    let c = fresh-append (take 8 es) (drop 8 es) in
-    let d = ap entries_fresh (take-append-drop 8 es) in
-    omega (arith, a, b, c, d)
-
--- the children among which an upper half is put
-pub fresh-with_half : (keys : List Bytes) (kids : List OwnChild) (place : ℕ) (half : Half) → length kids ≡ length keys
-    → place < length keys
-    → entries_fresh (with_half place (Some half) (paired keys kids)) ≡ kids_fresh kids + half.node.value.fresh
-fresh-with_half keys kids place half l w =
-    let a = fresh-inserted (paired keys kids) (place + 1) (get_or half.firsts.items 0 [], Own half.node)
-    (omega (arith, length-paired keys kids l, w)) in
-    let b = ap kids_fresh (values_of-paired keys kids l) in
-    omega (arith, a, b)
+-- an own chunk over children
+pub fresh-inner : (depth : ℕ) (keys : List Bytes) (body : Body) (kids : _) (n : Seen)
+    → body_marks depth keys body ≡ n.marks → body ≡ Inner kids → fresh n ≡ kids_fresh kids.items + 1
+fresh-inner depth keys body kids n v e = ap owned (sym v ∙ ap (body_marks depth keys) e)
+    ∙ owned-inner (depth - 1) (parting keys) kids.items
 
 -- KEYS
 
@@ -101,14 +81,9 @@ rows_put keys values i key v o l a =
 -- CHUNKS
 
 pub leaf_counts : (depth : ℕ) (keys : List Bytes) (body : Body) (values : _) → body ≡ Leaf values
-    → IsNode depth keys body → (depth ≡ 1) × (body_fresh body ≡ 1)
+    → IsNode depth keys body → depth ≡ 1
 leaf_counts depth keys body values e inv = let h : IsNode depth keys (Leaf values) = subst (IsNode depth keys) e inv in
-    (h.1.0, ap body_fresh e)
-
-pub inner_counts : (depth : ℕ) (keys : List Bytes) (body : Body) (kids : _) → body ≡ Inner kids → IsNode depth keys body
-    → (0 < depth) × (body_fresh body ≡ kids_fresh kids.items + 1)
-inner_counts depth keys body kids e inv = let h : IsNode depth keys (Inner kids) = subst (IsNode depth keys) e inv in
-    (h.1.0, ap body_fresh e)
+    h.1.0
 
 -- a chunk that isn't split stays wide
 pub wide_kept : (old new : Seen) (half : Option Half) → half ≡ None → new.depth ≡ old.depth
@@ -119,10 +94,6 @@ wide_kept old new half e d k w = by (subst (HasKept old.entries new.entries) e k
     by k (inl h) = inl (d ∙ h)
     by (inl k) (inr h) = inr (omega (arith, k, h))
     by (inr k) (inr h) = inr (omega (arith, k.0, h))
-
--- a number that is the same as one chunk's after a change
-pub deep_same : (old new : ℕ) → new ≡ old → (old ≤ new) × (new ≤ old + 1)
-deep_same old new e = (omega arith, omega arith)
 
 -- COUNTED
 

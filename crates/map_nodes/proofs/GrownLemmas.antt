@@ -27,16 +27,17 @@ use Rattle.map_chunks.specs.Places.{AreAll, AreKept, places_of}
 use Rattle.map_chunks.specs.Search.{is_above, IsPlace}
 use Rattle.map_chunks.specs.Seeking.{chunk_depth}
 use Rattle.map_chunks.specs.Shown.{Piece, Seen, chunk_rows, rows_or, shown, IsTree}
-use Rattle.map_nodes.proofs.CopyLemmas.{copied_pieces, copyable, placed_fresh}
+use Rattle.map_nodes.proofs.CopyLemmas.{copied_pieces, copyable}
 use Rattle.map_nodes.proofs.KeptLevels.{placed_inner, placed-values, still}
-use Rattle.map_nodes.proofs.LevelLemmas.{changed_as, changed_copy, inner-levels, IsCopied}
+use Rattle.map_nodes.proofs.LevelLemmas.{changed_as, changed_copy, inner-levels}
+use Rattle.map_nodes.specs.Levels.{IsCopied, parting, placed_levels, seen_levels, topped, IsRenewed}
 use Rattle.map_nodes.proofs.NamedLemmas.{kept-finished, kept-kid}
 use Rattle.map_nodes.proofs.NodeLemmas.{Down, down}
 use Rattle.map_nodes.proofs.PathLemmas.{Put, filled_kids, length-lowered, length-pairs, put_path}
 use Rattle.map_nodes.proofs.PutLevels.{child_put, firsts_are, put_as, put_copied, put_over}
 use Rattle.map_nodes.proofs.RenewLemmas.{inner_replaced}
 use Rattle.map_nodes.proofs.SpotLemmas.{read_at}
-use Rattle.map_nodes.proofs.TrailLemmas.{fresh_placed, kid_of, length-placed, placed-places, seen_over}
+use Rattle.map_nodes.proofs.TrailLemmas.{kid_of, length-placed, placed-places, seen_over}
 use Rattle.map_nodes.proofs.WideLemmas.{wide-copy}
 use Rattle.map_nodes.specs.Inside.Copies.{chunk_pieces}
 use Rattle.map_nodes.specs.Inside.Counts.{HasKept}
@@ -47,7 +48,6 @@ use Rattle.map_nodes.specs.Inside.Laying.{IsMade}
 use Rattle.map_nodes.specs.Inside.Nodes.{Kid, child_rows}
 use Rattle.map_nodes.specs.Inside.Puts.{half_levels}
 use Rattle.map_nodes.specs.Inside.Ready.{Fits}
-use Rattle.map_nodes.specs.Levels.{parting, placed_levels, seen_levels, topped, IsRenewed}
 use Rattle.map_nodes.specs.Nodes.{AllKids, kids_levels, kids_pieces}
 use Rattle.map_nodes.specs.Trails.{placed_kids, step_kids, step_seen, IsStep}
 use Rattle.map_nodes.specs.declared.nodes.OwnChild.TheVariants.{Placed, Own}
@@ -264,7 +264,7 @@ made_over q r may copies depth i key v at below kids child n half made x pre all
     x.deep x.pairs x.child x.place g.first (
       kid,
       refl,
-      λ t. (let z = m.replaced (subst IsSome (sym x.same) t) in (other, z.0, omega (arith, z.1), z.2)),
+      λ t. (let z = m.replaced (subst IsSome (sym x.same) t) in (other, z.0, z.1)),
     ) g.parted g.whole in
     let kept = kept-finished may (kids_places xs) b i half (lowered i lower (keys_of kids)) news _
     (length-over kids i kid lower x.pairs) g.shape.0
@@ -277,26 +277,27 @@ made_over q r may copies depth i key v at below kids child n half made x pre all
       half_is = g.half_is;
       filled = subst (λ (s : Seen). 0 < length s.pieces) (sym g.is)
           (filled_kids b (paired keys own) (length-pairs keys own g.shape.1 g.shape.3) g.shape.4);
-      few = omega (arith, ap (λ (s : Seen). s.fresh) g.is, g.few, is.few, x.deep);
       replaced = λ t. (let z = renewed t in (
         z.1,
-        omega (arith, z.2, placed_fresh (values_of kids), ap (λ (s : Seen). s.fresh) g.is),
-        λ later p. changed_copy IsRenewed (λ ks. refl) (placed_levels later depth k)
-            (topped (None, parting (keys_of kids)) (kids_levels b xs later)) (seen_levels n later) (copied later p)
-            (λ level. changed_as IsRenewed (topped (None, parting (keys_of kids)) (kids_levels b xs later) level)
+        λ later p. changed_copy IsRenewed (λ ks. refl) depth (placed_levels later depth k)
+            (topped (None, parting (keys_of kids)) (kids_levels b xs later)) (seen_levels n later) x.deep
+            (copied later p)
+            (λ level. changed_as (level < depth) IsRenewed
+            (topped (None, parting (keys_of kids)) (kids_levels b xs later) level)
             (topped (None, parting keys) (kids_levels b own later) level)
             (topped (None, parting (keys_of kids)) (kids_levels b xs later) level) (seen_levels n later level) refl
-            (seen later level) (z.3 later p level)),
+            (seen later level) (z.2 later p level)),
       ));
-      levels = λ later p. put_copied (placed_levels later depth k)
+      levels = λ later p. put_copied depth (placed_levels later depth k)
           (topped (None, parting (keys_of kids)) (kids_levels b xs later))
-          (λ level. seen_levels n later level ++ half_levels made later level) (copied later p)
-          (put_as (topped (None, parting (keys_of kids)) (kids_levels b xs later))
+          (λ level. seen_levels n later level ++ half_levels made later level) x.deep (copied later p)
+          (put_as depth (topped (None, parting (keys_of kids)) (kids_levels b xs later))
           (λ level. topped (None, parting keys) (kids_levels b own later) level ++ half_levels made later level)
           (topped (None, parting (keys_of kids)) (kids_levels b xs later))
           (λ level. seen_levels n later level ++ half_levels made later level) (λ level. refl)
           (λ level. ap (λ w. w ++ half_levels made later level) (seen later level))
           (put_over later depth (keys_of kids) (keys_of es) keys made (kids_levels b xs later) own (values_of es)
+          x.deep
           (child_put q later depth (keys_of kids) xs news x.pieces key i (Placed below) lower half x.pairs x.way kid
           refl (m.levels later p))
           (firsts_are (keys_of kids) news i lower half key x.place g.first
@@ -357,7 +358,6 @@ step_over q r may copies depth key v at below kids s next x pre c m =
           all,
         );
         half_is = tt;
-        few = omega (arith, fresh_placed s.children.items s.place kid (omega (arith, items, within)));
         entries = inl n;
         parted = (
           sym (keys_of-paired keys children pairs) ∙ ap keys_of es,

@@ -1,12 +1,10 @@
 -- What stands in a root's place.
-use Rattle.std.proofs.Common.{◌≡◌, ◌<◌, ◌≤◌, ◌+◌, ℕ, false, nat_le, List, Some, ap, subst, arith}
+use Rattle.std.proofs.Common.{◌≡◌, ◌<◌, ℕ, false, nat_le, List, Some, subst, arith}
 use Rattle.std.proofs.lemmas.Bool.Decides.{nat_tests}
 use Rattle.group_history.specs.declared.refs.Ref.{Ref}
 use Rattle.group_history.specs.Map.{Bytes}
 use Rattle.group_history.specs.Spelling.{Contents}
-use Rattle.map_nodes.specs.Nodes.{kids_fresh}
-use Rattle.map_nodes.specs.Inside.Removing.{left_rows, left_fresh, one_shown, gives_way, AreLeft, IsHeir, KeptBy}
-use Rattle.map_nodes.specs.Inside.Removing.{IsWideLeft}
+use Rattle.map_nodes.specs.Inside.Removing.{left_rows, one_shown, gives_way, AreLeft, IsHeir, KeptBy, IsWideLeft}
 use Rattle.map_nodes.specs.declared.nodes.OwnChild.{OwnChild}
 use Rattle.map_nodes.specs.declared.nodes.removing.ChildAfter.{ChildAfter}
 use Rattle.map_nodes.specs.declared.nodes.removing.ChildAfter.TheVariants.{Leaves, Stays}
@@ -19,11 +17,6 @@ pub heir-rows : (q r : Contents) (ks kids : List OwnChild) (depth : ℕ) (keys :
     → left_rows r depth keys kids (Some h) ≡ one_shown q ks
 heir-rows q r ks kids depth keys (Placed at) i = i.0
 heir-rows q r ks kids depth keys (Own n) i = i.0
-
-pub heir-fresh : (q r : Contents) (ks old new : List OwnChild) (h : NewRoot) → IsHeir q r ks h → KeptBy old new h
-    → kids_fresh ks ≤ kids_fresh old → left_fresh new (Some h) ≤ kids_fresh old + 1
-heir-fresh q r ks old new (Placed at) i k f = omega (arith, ap kids_fresh k)
-heir-fresh q r ks old new (Own n) i k f = omega (arith, i.2, f)
 
 pub heir-wide : (q r : Contents) (ks : List OwnChild) (m n : ℕ) (h : NewRoot) → IsHeir q r ks h
     → IsWideLeft r m n (Some h)

@@ -1,7 +1,7 @@
 -- What a put makes of a leaf.
-use Rattle.std.proofs.Common.{◌≡◌, ◌∙◌, ◌<◌, ◌≤◌, ◌++◌, ◌∷◌, ℕ, zero, suc, Bool, List, [], Option, Some, None}
-use Rattle.std.proofs.Common.{append-nil, ap, arith, false, inl, inr, length, nat_cmp, not, refl, reverse}
-use Rattle.std.proofs.Common.{slice_get, subst, sym, true}
+use Rattle.std.proofs.Common.{◌≡◌, ◌∙◌, ◌<◌, ◌++◌, ◌∷◌, ℕ, zero, suc, Bool, List, [], Option, Some, None, append-nil}
+use Rattle.std.proofs.Common.{ap, arith, false, inl, inr, length, nat_cmp, not, refl, reverse, slice_get, subst, sym}
+use Rattle.std.proofs.Common.{true}
 use Rattle.std.specs.Option.{is_some}
 use Rattle.std.specs.Arc.{arc_value}
 use Rattle.std.specs.Cmp.Lexicographic.{slice_cmp}
@@ -31,7 +31,7 @@ use Rattle.map_nodes.proofs.LevelLemmas.{leaf-levels}
 use Rattle.map_nodes.proofs.NamedLemmas.{places-rows}
 use Rattle.map_nodes.proofs.NodeLemmas.{shown-rows}
 use Rattle.map_nodes.proofs.PutLevels.{leaf_put_levels, put_as, put_copied}
-use Rattle.map_nodes.specs.Inside.Counts.{half_fresh, HasKept}
+use Rattle.map_nodes.specs.Inside.Counts.{HasKept}
 use Rattle.map_nodes.specs.Inside.Halves.{half_pieces, IsHalf}
 use Rattle.map_nodes.specs.Inside.Laying.{rows_seen, IsLeafEnd, IsMade, IsMadeLeaf, IsPutEnd, IsReached}
 use Rattle.map_nodes.specs.Inside.Puts.{half_levels, IsLeafPut}
@@ -66,7 +66,6 @@ made_replaced copies rows key v i e o f h =
       pieces_are = append-nil (row_pieces (paired keys values)) ∙ ap row_pieces h.1;
       half_is = tt;
       filled = omega (arith, length-row_pieces (paired keys values), length-paired keys values h.0.1, some);
-      fresh = (refl, omega arith);
       keys = (keys, refl, inl long, inl (same, refl));
       renewed = λ there. (refl, ap (λ ks. own 0 (leaf_keys ks) ∷ []) same);
     }
@@ -75,15 +74,14 @@ made_replaced copies rows key v i e o f h =
 pub made_longer : (copies : ℕ) (rows : Rows) (key v : Bytes) (keys values : List Bytes) (half : Option Half)
     → find (slice_cmp nat_cmp) key rows ≡ None
     → row_pieces (paired keys values) ++ half_pieces half ≡ row_pieces (put (slice_cmp nat_cmp) key v rows)
-    → IsHalf copies 1 half → length values ≡ length keys → 0 < length keys → half_fresh half ≤ 1
+    → IsHalf copies 1 half → length values ≡ length keys → 0 < length keys
     → HasKept (length rows) (length keys) half → IsLeafPut (keys_of rows) keys half
     → IsMadeLeaf copies rows key v (rows_seen keys values) half
-made_longer copies rows key v keys values half none p h l some f k m = record {
+made_longer copies rows key v keys values half none p h l some k m = record {
   depth_is = refl;
   pieces_are = p;
   half_is = h;
   filled = omega (arith, length-row_pieces (paired keys values), length-paired keys values l, some);
-  fresh = (refl, f);
   keys = (keys, refl, k, m);
   renewed = λ there. absurd (none_there (find (slice_cmp nat_cmp) key rows) there none);
 }
@@ -104,12 +102,7 @@ made_of_placed q places copies stamp rows key v n half g m = record {
   shown_is = ap (shown q) m.pieces_are ∙ shown-rows q (put (slice_cmp nat_cmp) key v rows);
   half_is = m.half_is;
   filled = m.filled;
-  few = omega (arith, m.fresh.0, m.fresh.1);
-  replaced = λ there. (
-    (m.renewed there).0,
-    (let few : n.fresh ≤ 1 = omega (arith, m.fresh.0) in few),
-    renewed_levels (m.renewed there).1,
-  );
+  replaced = λ there. ((m.renewed there).0, renewed_levels (m.renewed there).1);
   levels = put_levels;
   kept = subst (AreKept places []) (sym (ap places_of m.pieces_are ∙ places-rows (put (slice_cmp nat_cmp) key v rows)))
       (kept-none places []);
@@ -123,32 +116,35 @@ made_of_placed q places copies stamp rows key v n half g m = record {
         → placed_levels later 1 stamp i ≡ topped (Some stamp, was) nothing i
     placed_is later pre = placed_leaf later 1 stamp rows refl (still q later stamp (chunked.Leaf rows) pre g)
 
-    renewed_levels : n.marks ≡ own 0 was ∷ [] → RenewedLater q (λ p. placed_levels p 1 stamp) (seen_levels n)
+    renewed_levels : n.marks ≡ own 0 was ∷ [] → RenewedLater q 1 (λ p. placed_levels p 1 stamp) (seen_levels n)
     renewed_levels e later pre zero = inr (
-      [],
-      (Some stamp, was),
-      [],
-      was ∷ [],
-      placed_is later pre 0,
-      ap (λ w. levels_of later w 0) e ∙ leaf-levels later was 0,
-      refl,
+      omega arith,
+      (
+        [],
+        (Some stamp, was),
+        [],
+        was ∷ [],
+        placed_is later pre 0,
+        ap (λ w. levels_of later w 0) e ∙ leaf-levels later was 0,
+        refl,
+      ),
     )
     renewed_levels e later pre (suc i) = inl (ap (λ w. levels_of later w (suc i)) e
         ∙ leaf-levels later was (suc i) ∙ sym (placed_is later pre (suc i)))
 
-    put_levels : (later : Contents) → IsPrefix q later → ArePut (placed_levels later 1 stamp)
+    put_levels : (later : Contents) → IsPrefix q later → ArePut 1 (placed_levels later 1 stamp)
         (λ level. seen_levels n later level ++ half_levels half later level)
     put_levels later pre =
         let keys = m.keys.0 in
         let placed = placed_is later pre in
         let kept : HasKept (length (keys_of rows)) (length keys) half = subst (λ w. HasKept w (length keys) half)
         (sym (length-keys_of rows)) m.keys.2 in
-        put_copied (placed_levels later 1 stamp) (levels_of later (own 0 was ∷ []))
-        (λ i. seen_levels n later i ++ half_levels half later i) (
+        put_copied 1 (placed_levels later 1 stamp) (levels_of later (own 0 was ∷ []))
+        (λ i. seen_levels n later i ++ half_levels half later i) (omega arith) (
           (Some stamp, was, placed 0, leaf-levels later was 0),
           λ i. leaf-levels later was (suc i) ∙ sym (placed (suc i)),
         )
-        (put_as (levels_of later (own 0 was ∷ []))
+        (put_as 1 (levels_of later (own 0 was ∷ []))
         (λ i. levels_of later (own 0 (leaf_keys keys) ∷ []) i ++ half_levels half later i)
         (levels_of later (own 0 was ∷ [])) (λ i. seen_levels n later i ++ half_levels half later i) (λ i. refl)
         (λ i. ap (λ w. levels_of later w i ++ half_levels half later i) m.keys.1)

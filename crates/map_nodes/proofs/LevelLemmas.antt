@@ -1,14 +1,14 @@
 -- Levels of marks, of children and of chunks.
-use Rattle.std.proofs.Common.{◌≡◌, ◌+◌, ◌-◌, ℕ, zero, suc, Bool, true, false, cond, nat_le, List, [], ◌∷◌, ◌++◌, None}
-use Rattle.std.proofs.Common.{append_assoc, append-nil, length, length-append, refl, sym, ap, ◌∙◌, subst, arith}
+use Rattle.std.proofs.Common.{◌≡◌, ◌<◌, ◌+◌, ◌-◌, ℕ, zero, suc, Bool, true, false, cond, nat_le, List, [], ◌∷◌, ◌++◌}
+use Rattle.std.proofs.Common.{None, append_assoc, append-nil, length, length-append, refl, sym, ap, ◌∙◌, subst, arith}
 use Rattle.std.proofs.Common.{Option, inl, inr, drop, get_or}
 use Rattle.std.specs.Prelude.{◌==◌}
 use Rattle.std.proofs.lemmas.Bool.Decides.{nat_tests}
 use Rattle.group_history.specs.Refs.{stamp_of}
 use Rattle.group_history.specs.Spelling.{Contents}
 use Rattle.map_chunks.specs.Shown.{Mark, Shape, own, placed}
-use Rattle.map_nodes.specs.Levels.{Levels, Member, levels_of, mark_levels, placed_levels, topped}
-use Rattle.map_nodes.specs.Levels.{as_new, AreChanged}
+use Rattle.map_nodes.specs.Levels.{Levels, Member, levels_of, mark_levels, placed_levels, topped, as_new, AreChanged}
+use Rattle.map_nodes.specs.Levels.{IsCopied}
 use Rattle.map_nodes.specs.Nodes.{child_levels, child_marks, kids_levels, kids_marks, sunk}
 use Rattle.map_nodes.specs.declared.nodes.OwnChild.{OwnChild}
 use Rattle.map_nodes.specs.declared.nodes.OwnChild.TheVariants.{Placed, Own}
@@ -101,40 +101,45 @@ kids-levels-append c b (x ∷ xs) ys i = ap (λ w. child_levels b x c i ++ w) (k
 -- CHANGES
 
 -- the chunks beside those that changed stay
-pub changed_beside : (B : Shape → List Shape → Type 0) (x a b y : List Member) → AreChanged B a b
-    → AreChanged B (x ++ (a ++ y)) (x ++ (b ++ y))
-changed_beside B x a b y (inl e) = inl (ap (λ w. x ++ (w ++ y)) e)
-changed_beside B x a b y (inr m) = inr (
-  x ++ m.0,
-  m.1,
-  m.2 ++ y,
-  m.3,
-  ap (λ w. x ++ (w ++ y)) m.4 ∙ shift x m.0 (m.1 ∷ m.2) y,
-  ap (λ w. x ++ (w ++ y)) m.5 ∙ shift x m.0 (as_new m.3 ++ m.2) y
-      ∙ ap (λ w. (x ++ m.0) ++ w) (append_assoc (as_new m.3) m.2 y),
-  m.6,
+pub changed_beside : (M : Type 0) (B : Shape → List Shape → Type 0) (x a b y : List Member) → AreChanged M B a b
+    → AreChanged M B (x ++ (a ++ y)) (x ++ (b ++ y))
+changed_beside M B x a b y (inl e) = inl (ap (λ w. x ++ (w ++ y)) e)
+changed_beside M B x a b y (inr (may, m)) = inr (
+  may,
+  (
+    x ++ m.0,
+    m.1,
+    m.2 ++ y,
+    m.3,
+    ap (λ w. x ++ (w ++ y)) m.4 ∙ shift x m.0 (m.1 ∷ m.2) y,
+    ap (λ w. x ++ (w ++ y)) m.5 ∙ shift x m.0 (as_new m.3 ++ m.2) y
+        ∙ ap (λ w. (x ++ m.0) ++ w) (append_assoc (as_new m.3) m.2 y),
+    m.6,
+  ),
 )
   where
     shift : (x f t y : List Member) → x ++ ((f ++ t) ++ y) ≡ (x ++ f) ++ (t ++ y)
     shift x f t y = ap (λ w. x ++ w) (append_assoc f t y) ∙ sym (append_assoc x f (t ++ y))
 
-pub changed_as : (B : Shape → List Shape → Type 0) (a b c d : List Member) → c ≡ a → d ≡ b → AreChanged B a b
-    → AreChanged B c d
-changed_as B a b c d e f h = subst (λ w. AreChanged B w d) (sym e) (subst (AreChanged B a) (sym f) h)
+pub changed_as : (M : Type 0) (B : Shape → List Shape → Type 0) (a b c d : List Member) → c ≡ a → d ≡ b
+    → AreChanged M B a b → AreChanged M B c d
+changed_as M B a b c d e f h = subst (λ w. AreChanged M B w d) (sym e) (subst (AreChanged M B a) (sym f) h)
 
--- the first chunk is a new one with the keys of the old one, and below it are the same chunks
-abbrev pub IsCopied : Levels → Levels → Type 0
-IsCopied old new = ((stamp : Option ℕ) × (keys : Shape) × (old 0 ≡ (stamp, keys) ∷ []) × (new 0 ≡ (None, keys) ∷ []))
-    × ((level : ℕ) → new (suc level) ≡ old (suc level))
+-- what may change on some levels may on more
+pub changed_may : (M N : Type 0) (B : Shape → List Shape → Type 0) (a b : List Member) → (M → N) → AreChanged M B a b
+    → AreChanged N B a b
+changed_may M N B a b f (inl e) = inl e
+changed_may M N B a b f (inr (may, m)) = inr (f may, m)
 
 -- a chunk that is copied, and then changed in one of these ways
-pub changed_copy : (B : Shape → List Shape → Type 0) → ((keys : Shape) → B keys (keys ∷ [])) → (was now new : Levels)
-    → IsCopied was now → ((level : ℕ) → AreChanged B (now level) (new level))
-    → (level : ℕ) → AreChanged B (was level) (new level)
-changed_copy B same was now new c h (suc level) =
-    changed_as B (now (suc level)) (new (suc level)) (was (suc level)) (new (suc level)) (sym (c.1 level)) refl
-    (h (suc level))
-changed_copy B same was now new c h zero = by (h 0)
+pub changed_copy : (B : Shape → List Shape → Type 0) → ((keys : Shape) → B keys (keys ∷ [])) → (deep : ℕ)
+    → (was now new : Levels) → 0 < deep → IsCopied was now
+    → ((level : ℕ) → AreChanged (level < deep) B (now level) (new level))
+    → (level : ℕ) → AreChanged (level < deep) B (was level) (new level)
+changed_copy B same deep was now new some c h (suc level) =
+    changed_as (suc level < deep) B (now (suc level)) (new (suc level)) (was (suc level)) (new (suc level))
+    (sym (c.1 level)) refl (h (suc level))
+changed_copy B same deep was now new some c h zero = by (h 0)
   where
     stamp : Option ℕ
     stamp = c.0.0
@@ -147,16 +152,19 @@ changed_copy B same was now new c h zero = by (h 0)
     alone [] chunk after e = (refl, sym (ap (λ w. get_or w 0 chunk) e), sym (ap (drop 1) e))
     alone (b ∷ bs) chunk after e = absurd (omega (arith, ap length e, length-append bs (chunk ∷ after)))
 
-    by : AreChanged B (now 0) (new 0) → AreChanged B (was 0) (new 0)
-    by (inl e) = inr ([], (stamp, keys), [], keys ∷ [], c.0.2, e ∙ c.0.3, same keys)
-    by (inr m) =
+    by : AreChanged (0 < deep) B (now 0) (new 0) → AreChanged (0 < deep) B (was 0) (new 0)
+    by (inl e) = inr (some, ([], (stamp, keys), [], keys ∷ [], c.0.2, e ∙ c.0.3, same keys))
+    by (inr (may, m)) =
         let a = alone m.0 m.1 m.2 (sym c.0.3 ∙ m.4) in
         inr (
-          [],
-          (stamp, keys),
-          [],
-          m.3,
-          c.0.2,
-          m.5 ∙ ap (λ w. w ++ (as_new m.3 ++ m.2)) a.0 ∙ ap (λ w. as_new m.3 ++ w) a.2,
-          subst (λ w. B w m.3) (ap (λ (w : Member). w.1) a.1) m.6,
+          may,
+          (
+            [],
+            (stamp, keys),
+            [],
+            m.3,
+            c.0.2,
+            m.5 ∙ ap (λ w. w ++ (as_new m.3 ++ m.2)) a.0 ∙ ap (λ w. as_new m.3 ++ w) a.2,
+            subst (λ w. B w m.3) (ap (λ (w : Member). w.1) a.1) m.6,
+          ),
         )

@@ -29,6 +29,8 @@ pub mod LevelLemmas
 pub mod PutLevels
 pub mod FreezeLevels
 mod KeptLevels
+mod NarrowLemmas
+pub mod RemoveLevels
 pub mod WayLemmas
 mod UpdateLemmas
 mod AmongLemmas

@@ -17,31 +17,33 @@ use Rattle.map_nodes.specs.Inside.Counts.{HasKept}
 use Rattle.map_nodes.specs.Inside.Halves.{IsLower, lowered, with_half}
 use Rattle.map_nodes.specs.Inside.Nodes.{Kid}
 use Rattle.map_nodes.specs.Inside.Puts.{half_levels, IsHalved, IsLeafPut}
-use Rattle.map_nodes.specs.Levels.{Levels, Member, levels_of, nothing, parting, seen_levels, topped}
-use Rattle.map_nodes.specs.Levels.{as_new, AreChanged, AreGrown, ArePut, ArePutIn, HasOneMore, IsGrown}
-use Rattle.map_nodes.specs.Levels.{IsRenewed, PutLater, RenewedLater}
+use Rattle.map_nodes.specs.Levels.{Levels, Member, levels_of, nothing, parting, seen_levels, topped, as_new, AreChanged}
+use Rattle.map_nodes.specs.Levels.{ArePut, ArePutIn, HasOneMore, IsGrown, IsRenewed, PutLater, RenewedLater, IsCopied}
 use Rattle.map_nodes.specs.Nodes.{Kids, child_levels, kids_levels, kids_marks, sunk}
 use Rattle.map_nodes.specs.declared.nodes.OwnChild.{OwnChild}
 use Rattle.map_nodes.specs.declared.nodes.OwnChild.TheVariants.{Own}
 use Rattle.map_nodes.specs.declared.nodes.putting.Half.{Half}
-use Rattle.map_nodes.proofs.LevelLemmas.{changed_as, changed_beside, changed_copy, inner-levels, kids-levels-append, IsCopied}
-use Rattle.map_nodes.proofs.LevelLemmas.{leaf-levels, levels-append, topped-is}
+use Rattle.map_nodes.proofs.LevelLemmas.{changed_as, changed_beside, changed_copy, changed_may, inner-levels}
+use Rattle.map_nodes.proofs.LevelLemmas.{kids-levels-append, leaf-levels, levels-append, topped-is}
 use Rattle.map_nodes.proofs.NodeLemmas.{Down}
 use Rattle.map_nodes.proofs.PathLemmas.{half_kids, length-lowered, lowered_pairs, with_half-is}
 
 -- LEVELS
 
-pub put_as : (a b c d : Levels) → ((i : ℕ) → c i ≡ a i) → ((i : ℕ) → d i ≡ b i) → ArePut a b → ArePut c d
-put_as a b c d e f h i = changed_as IsGrown (a i) (b i) (c i) (d i) (e i) (f i) (h i)
+pub put_as : (deep : ℕ) (a b c d : Levels) → ((i : ℕ) → c i ≡ a i) → ((i : ℕ) → d i ≡ b i) → ArePut deep a b
+    → ArePut deep c d
+put_as deep a b c d e f h i = changed_as (i < deep) IsGrown (a i) (b i) (c i) (d i) (e i) (f i) (h i)
 
 -- a chunk alone, and what it became
-own_grown : (old : Shape) (made : List Shape) (new : List Member) → new ≡ as_new made → IsGrown old made
-    → AreGrown ((None, old) ∷ []) new
-own_grown old made new e g = inr ([], (None, old), [], made, refl, e ∙ sym (append-nil (as_new made)), g)
+own_grown : (deep : ℕ) (old : Shape) (made : List Shape) (new : List Member) → 0 < deep → new ≡ as_new made
+    → IsGrown old made → AreChanged (0 < deep) IsGrown ((None, old) ∷ []) new
+own_grown deep old made new l e g =
+    inr (l, ([], (None, old), [], made, refl, e ∙ sym (append-nil (as_new made)), g))
 
 -- a put into a copy of a chunk
-pub put_copied : (was now new : Levels) → IsCopied was now → ArePut now new → ArePut was new
-put_copied was now new = changed_copy IsGrown (λ keys. inl refl) was now new
+pub put_copied : (deep : ℕ) (was now new : Levels) → 0 < deep → IsCopied was now → ArePut deep now new
+    → ArePut deep was new
+put_copied deep was now new = changed_copy IsGrown (λ keys. inl refl) deep was now new
 
 -- KEYS
 
@@ -141,16 +143,16 @@ had_room old new (inr k) l = k.1
 -- the leaf that there was, and what it is then
 leaf_grown : (q : Contents) (old new : List Bytes) (half : Option Half) → HasKept (length old) (length new) half
     → IsLeafPut old new half
-    → AreGrown ((None, leaf_keys old) ∷ []) ((None, leaf_keys new) ∷ half_levels half q 0)
-leaf_grown q old new None k (inl s) = own_grown (leaf_keys old) (leaf_keys new ∷ []) _ refl
+    → AreChanged (0 < 1) IsGrown ((None, leaf_keys old) ∷ []) ((None, leaf_keys new) ∷ half_levels half q 0)
+leaf_grown q old new None k (inl s) = own_grown 1 (leaf_keys old) (leaf_keys new ∷ []) _ (omega arith) refl
     (inl (ap (λ w. leaf_keys w ∷ []) s.0))
 leaf_grown q old new (Some h) k (inl s) = absurd (not_none h s.1)
 leaf_grown q old new None k (inr m) =
     let more = ap length m.3 ∙ length-more old m.0 m.1 in
-    own_grown (leaf_keys old) (leaf_keys new ∷ []) _ refl
+    own_grown 1 (leaf_keys old) (leaf_keys new ∷ []) _ (omega arith) refl
     (inr (inl (m.0, had_room (length old) (length new) k more, m.1, ap (λ w. leaf_keys w ∷ []) m.3)))
 leaf_grown q old new (Some h) k (inr m) =
-    own_grown (leaf_keys old) (leaf_keys (take 8 m.0) ∷ leaf_keys (drop 8 m.0) ∷ []) _
+    own_grown 1 (leaf_keys old) (leaf_keys (take 8 m.0) ∷ leaf_keys (drop 8 m.0) ∷ []) _ (omega arith)
     (ap (λ w. (None, leaf_keys w) ∷ half_levels (Some h) q 0) m.3.1
     ∙ ap (λ w. (None, leaf_keys (take 8 m.0)) ∷ w)
     (ap (λ w. levels_of q w 0) m.3.2 ∙ leaf-levels q (leaf_keys (drop 8 m.0)) 0))
@@ -165,16 +167,16 @@ leaf_half_below q old new (Some h) i (inr m) = ap (λ w. levels_of q w (suc i)) 
 
 pub leaf_put_levels : (q : Contents) (old new : List Bytes) (half : Option Half)
     → HasKept (length old) (length new) half → IsLeafPut old new half
-    → ArePut (levels_of q (own 0 (leaf_keys old) ∷ []))
+    → ArePut 1 (levels_of q (own 0 (leaf_keys old) ∷ []))
     (λ i. levels_of q (own 0 (leaf_keys new) ∷ []) i ++ half_levels half q i)
 leaf_put_levels q old new half k m =
-    put_as (topped (None, leaf_keys old) nothing)
+    put_as 1 (topped (None, leaf_keys old) nothing)
     (λ i. topped (None, leaf_keys new) nothing i ++ half_levels half q i)
     (levels_of q (own 0 (leaf_keys old) ∷ []))
     (λ i. levels_of q (own 0 (leaf_keys new) ∷ []) i ++ half_levels half q i) (leaf-levels q (leaf_keys old))
     (λ i. ap (λ w. w ++ half_levels half q i) (leaf-levels q (leaf_keys new) i)) by
   where
-    by : ArePut (topped (None, leaf_keys old) nothing)
+    by : ArePut 1 (topped (None, leaf_keys old) nothing)
         (λ i. topped (None, leaf_keys new) nothing i ++ half_levels half q i)
     by zero = leaf_grown q old new half k m
     by (suc i) = inl (leaf_half_below q old new half i m)
@@ -238,22 +240,24 @@ firsts_are keys new i lower (Some h) key p low l =
 
 -- the chunk that there was, and what it is then
 inner_grown : (q : Contents) (deep : ℕ) (old firsts keys : List Bytes) (half : Option Half) (kids all : List OwnChild)
-    → AreFirsts old firsts → IsHalved deep keys kids half firsts all → HasKept (length old) (length keys) half
-    → AreGrown ((None, parting old) ∷ []) ((None, parting keys) ∷ half_levels half q 0)
-inner_grown q deep old firsts keys None kids all (inl f) h k = own_grown (parting old) (parting keys ∷ []) _ refl
+    → 0 < deep → AreFirsts old firsts → IsHalved deep keys kids half firsts all
+    → HasKept (length old) (length keys) half
+    → AreChanged (0 < deep) IsGrown ((None, parting old) ∷ []) ((None, parting keys) ∷ half_levels half q 0)
+inner_grown q deep old firsts keys None kids all z (inl f) h k =
+    own_grown deep (parting old) (parting keys ∷ []) _ z refl
     (inl (ap (λ w. child_keys w ∷ []) (ap (drop 1) h.0 ∙ f.1)))
-inner_grown q deep old firsts keys (Some g) kids all (inl f) h k = absurd (omega (arith, f.0, h.0, k.0))
-inner_grown q deep old firsts keys None kids all (inr f) h k =
+inner_grown q deep old firsts keys (Some g) kids all z (inl f) h k = absurd (omega (arith, f.0, h.0, k.0))
+inner_grown q deep old firsts keys None kids all z (inr f) h k =
     let room = had_room (length old) (length keys) k (ap length h.0 ∙ f.0) in
-    own_grown (parting old) (parting keys ∷ []) _ refl
+    own_grown deep (parting old) (parting keys ∷ []) _ z refl
     (inr (inl (
       drop 1 firsts,
       omega (arith, room, length-drop 1 old),
       f.1,
       ap (λ w. child_keys w ∷ []) (ap (drop 1) h.0),
     )))
-inner_grown q deep old firsts keys (Some g) kids all (inr f) h k =
-    own_grown (parting old) (child_keys (take 7 (drop 1 firsts)) ∷ child_keys (drop 8 (drop 1 firsts)) ∷ []) _
+inner_grown q deep old firsts keys (Some g) kids all z (inr f) h k =
+    own_grown deep (parting old) (child_keys (take 7 (drop 1 firsts)) ∷ child_keys (drop 8 (drop 1 firsts)) ∷ []) _ z
     (ap (λ w. (None, parting w) ∷ half_levels (Some g) q 0) h.1
     ∙ ap (λ w. (None, child_keys w) ∷ half_levels (Some g) q 0) (front firsts)
     ∙ ap (λ w. (None, child_keys (take 7 (drop 1 firsts))) ∷ w)
@@ -290,13 +294,15 @@ half_below q deep keys firsts (Some g) kids all i h =
 
 -- a chunk over chunks of which one was put in, once it is split where it has to be
 pub put_over : (q : Contents) (deep : ℕ) (old firsts keys : List Bytes) (half : Option Half) (a : Levels)
-    (kids all : List OwnChild) → ArePut a (kids_levels (deep - 1) all q) → AreFirsts old firsts
+    (kids all : List OwnChild) → 0 < deep → ArePut (deep - 1) a (kids_levels (deep - 1) all q) → AreFirsts old firsts
     → IsHalved deep keys kids half firsts all → HasKept (length old) (length keys) half
-    → ArePut (topped (None, parting old) a)
+    → ArePut deep (topped (None, parting old) a)
     (λ i. topped (None, parting keys) (kids_levels (deep - 1) kids q) i ++ half_levels half q i)
-put_over q deep old firsts keys half a kids all p f h k zero = inner_grown q deep old firsts keys half kids all f h k
-put_over q deep old firsts keys half a kids all p f h k (suc i) = subst (AreGrown (a i)) (sym
-    (half_below q deep keys firsts half kids all i h)) (p i)
+put_over q deep old firsts keys half a kids all z p f h k zero =
+    inner_grown q deep old firsts keys half kids all z f h k
+put_over q deep old firsts keys half a kids all z p f h k (suc i) =
+    changed_may (i < deep - 1) (suc i < deep) IsGrown (a i) _ (λ (m : i < deep - 1). omega (arith, m, z))
+    (subst (AreChanged (i < deep - 1) IsGrown (a i)) (sym (half_below q deep keys firsts half kids all i h)) (p i))
 
 -- CHILDREN
 
@@ -333,15 +339,16 @@ half_entries q b (Some h) i = append-nil (seen_levels h.node.value q i)
 pub child_put : (p q : Contents) (depth : ℕ) (keys : List Bytes) (kids new : List OwnChild) (pieces : List Piece)
     (key : Bytes) (i : ℕ) (child : OwnChild) (lower : Option Bytes) (half : Option Half) → length kids ≡ length keys
     → (d : Down p depth keys kids pieces key i child) → (n : Kid) → new ≡ set kids i (Own n)
-    → ArePut (child_levels (depth - 1) child q) (λ level. seen_levels n.value q level ++ half_levels half q level)
-    → ArePut (kids_levels (depth - 1) kids q)
+    → ArePut (depth - 1) (child_levels (depth - 1) child q)
+    (λ level. seen_levels n.value q level ++ half_levels half q level)
+    → ArePut (depth - 1) (kids_levels (depth - 1) kids q)
     (entries_levels (depth - 1) (with_half i half (paired (lowered i lower keys) new)) q)
 child_put p q depth keys kids new pieces key i child lower half l d n e h level =
     let b = depth - 1 in
     let first = d.first in
     let es = ap (λ w. with_half i half (paired (lowered i lower keys) w)) e ∙ ap (with_half i half)
     (lowered_pairs keys kids i lower (Own n) child d.before first d.behind l d.whole d.at) in
-    changed_as IsGrown
+    changed_as (level < b) IsGrown
     (entries_levels b d.before q level ++ (child_levels b child q level ++ entries_levels b d.behind q level))
     (entries_levels b d.before q level
     ++ ((seen_levels n.value q level ++ half_levels half q level) ++ entries_levels b d.behind q level))
@@ -355,7 +362,7 @@ child_put p q depth keys kids new pieces key i child lower half l d n e h level 
     (ap (λ w. seen_levels n.value q level ++ w) (entries-append q b (half_kids half) d.behind level)
     ∙ ap (λ w. seen_levels n.value q level ++ (w ++ entries_levels b d.behind q level)) (half_entries q b half level)
     ∙ sym (append_assoc (seen_levels n.value q level) (half_levels half q level) (entries_levels b d.behind q level))))
-    (changed_beside IsGrown (entries_levels b d.before q level) (child_levels b child q level)
+    (changed_beside (level < b) IsGrown (entries_levels b d.before q level) (child_levels b child q level)
     (seen_levels n.value q level ++ half_levels half q level) (entries_levels b d.behind q level) (h level))
 
 -- one answer from two things that are known of it
@@ -367,15 +374,17 @@ if_ok_both (Err e) p q f = tt
 -- ROOTS
 
 -- what a put makes of a map: a chunk and its upper half
-abbrev pub PutBoth : Contents → (Contents → Levels) → Seen → Option Half → Type 0
-PutBoth contents old new half = (later : Contents) → IsPrefix contents later
-    → ArePut (old later) (λ level. seen_levels new later level ++ half_levels half later level)
+abbrev pub PutBoth : Contents → ℕ → (Contents → Levels) → Seen → Option Half → Type 0
+PutBoth contents deep old new half = (later : Contents) → IsPrefix contents later
+    → ArePut deep (old later) (λ level. seen_levels new later level ++ half_levels half later level)
 
 -- a root that isn't split
 pub put_level : (q : Contents) (was : ℕ) (old : Contents → Levels) (new : Seen) (half : Option Half) → half ≡ None
-    → new.depth ≡ was → PutBoth q old new half → PutLater was new.depth q old (seen_levels new)
+    → new.depth ≡ was → PutBoth q was old new half → PutLater was new.depth q old (seen_levels new)
 put_level q was old new half e d h later pre = (
-  λ i. changed_as IsGrown (old later i) (seen_levels new later i ++ half_levels half later i)
+  omega (arith, d),
+  omega (arith, d),
+  λ i. changed_as (i < was) IsGrown (old later i) (seen_levels new later i ++ half_levels half later i)
       (old later i) (seen_levels new later (i + (new.depth - was))) refl
       (ap (seen_levels new later) (let z : i + (new.depth - was) ≡ i = omega (arith, d) in z)
       ∙ sym (append-nil (seen_levels new later i)) ∙ ap (λ w. seen_levels new later i ++ half_levels w later i) (sym e))
@@ -384,17 +393,19 @@ put_level q was old new half e d h later pre = (
 )
 
 -- a chunk that has its keys still is what a put may make of it, too
-renewed_grown : (old new : List Member) → AreChanged IsRenewed old new → AreGrown old new
-renewed_grown old new (inl e) = inl e
-renewed_grown old new (inr m) = inr (m.0, m.1, m.2, m.3, m.4, m.5, inl m.6)
+renewed_grown : (M : Type 0) (old new : List Member) → AreChanged M IsRenewed old new → AreChanged M IsGrown old new
+renewed_grown M old new (inl e) = inl e
+renewed_grown M old new (inr (may, m)) = inr (may, (m.0, m.1, m.2, m.3, m.4, m.5, inl m.6))
 
 -- a value replaced
-pub put_same : (q : Contents) (was deep : ℕ) (old new : Contents → Levels) → deep ≡ was → RenewedLater q old new
-    → PutLater was deep q old new
+pub put_same : (q : Contents) (was deep : ℕ) (old new : Contents → Levels) → deep ≡ was
+    → RenewedLater q was old new → PutLater was deep q old new
 put_same q was deep old new d h later pre = (
-  λ i. subst (λ n. AreGrown (old later i) (new later n))
+  omega (arith, d),
+  omega (arith, d),
+  λ i. subst (λ n. AreChanged (i < was) IsGrown (old later i) (new later n))
       (let z : i ≡ i + (deep - was) = omega (arith, d) in z)
-      (renewed_grown (old later i) (new later i) (h later pre i)),
+      (renewed_grown (i < was) (old later i) (new later i) (h later pre i)),
   λ l. absurd (omega (arith, l, d)),
 )
 
@@ -402,10 +413,12 @@ put_same q was deep old new d h later pre = (
 pub put_risen : (q : Contents) (was : ℕ) (old : Contents → Levels) (lower new : Seen) (half : Half) → lower.depth ≡ was
     → new.depth ≡ lower.depth + 1
     → ((key : Bytes) × (new.marks ≡ own 0 (child_keys (key ∷ [])) ∷ sunk (lower.marks ++ half.node.value.marks)))
-    → PutBoth q old lower (Some half) → PutLater was new.depth q old (seen_levels new)
+    → PutBoth q was old lower (Some half) → PutLater was new.depth q old (seen_levels new)
 put_risen q was old lower new half d n m h later pre =
     let shape = child_keys (m.0 ∷ []) in (
-      λ i. changed_as IsGrown (old later i) (seen_levels lower later i ++ half_levels (Some half) later i)
+      omega (arith, d, n),
+      omega (arith, d, n),
+      λ i. changed_as (i < was) IsGrown (old later i) (seen_levels lower later i ++ half_levels (Some half) later i)
           (old later i) (seen_levels new later (i + (new.depth - was))) refl
           (ap (seen_levels new later) (let z : i + (new.depth - was) ≡ suc i = omega (arith, d, n) in z)
           ∙ ap (λ w. levels_of later w (suc i)) m.1
@@ -419,5 +432,9 @@ put_risen q was old lower new half d n m h later pre =
 
 -- what was before, told by other words
 pub put_in_as : (was deep : ℕ) (a b c : Levels) → ((i : ℕ) → c i ≡ a i) → ArePutIn was deep a b → ArePutIn was deep c b
-put_in_as was deep a b c e h =
-    (λ i. changed_as IsGrown (a i) (b (i + (deep - was))) (c i) (b (i + (deep - was))) (e i) refl (h.0 i), h.1)
+put_in_as was deep a b c e h = (
+  h.0,
+  h.1,
+  λ i. changed_as (i < was) IsGrown (a i) (b (i + (deep - was))) (c i) (b (i + (deep - was))) (e i) refl (h.2 i),
+  h.3,
+)

@@ -1,10 +1,10 @@
 -- A key removed below a draft's chunk.
 use Rattle.std.proofs.Common.{◌≡◌, ◌<◌, ◌≤◌, ◌+◌, ◌-◌, ℕ, zero, suc, Bool, true, false, cond, not, T, List, [], ◌∷◌}
-use Rattle.std.proofs.Common.{◌++◌, Option, Some, None, length, get_or, set, remove, slice_get, nat_le, length-set}
+use Rattle.std.proofs.Common.{◌++◌, Option, Some, None, length, get_or, remove, slice_get, nat_le, length-set}
 use Rattle.std.proofs.Common.{length-append, refl, sym, ap, ◌∙◌, subst, arith, nat_cmp, Ordering, Less, Equal, Greater}
 use Rattle.std.proofs.Common.{is_eq}
 use Rattle.std.proofs.lemmas.Bool.Decides.{nat_tests}
-use Rattle.std.specs.Prelude.{option_and_then}
+use Rattle.std.specs.Prelude.{option_and_then, IsSome}
 use Rattle.std.specs.Ordering.{ordering_reverse, eq_by_cmp}
 use Rattle.std.specs.Cmp.Lexicographic.{slice_cmp, nat_list_cmp_total}
 use Rattle.std.specs.FinMap as finite
@@ -15,11 +15,11 @@ use Rattle.group_history.specs.Map.{Bytes, Entries, same_text}
 use Rattle.group_history.specs.Rows.{Rows, keys_of, paired, AreKeys, rises}
 use Rattle.group_history.specs.Spelling.{Contents, begins_with, joined_rows}
 use Rattle.group_history.proofs.Pairs.{keys_of-paired}
-use Rattle.map_nodes.specs.Inside.Halves.{lowered}
-use Rattle.map_nodes.specs.Nodes.{IsNode, Kids, kids_pieces, body_pieces, AllKids, child_fresh, kids_fresh}
+use Rattle.map_nodes.specs.Inside.Halves.{HasDepth, lowered}
+use Rattle.map_nodes.specs.Nodes.{IsChild, IsNode, Kids, child_levels, kids_pieces, body_pieces, AllKids}
 use Rattle.map_nodes.specs.Inside.Nodes.{ChildChanged, child_rows}
 use Rattle.map_nodes.specs.Removing.{without}
-use Rattle.map_nodes.specs.Inside.Removing.{IsFate, HasOthers, gives_way, CanRemove, one_shown}
+use Rattle.map_nodes.specs.Inside.Removing.{IsFate, IsThinLater, HasOthers, gives_way, CanRemove, one_shown}
 use Rattle.map_nodes.specs.Inside.Scanning.{kid_shown}
 use Rattle.map_chunks.specs.Search.{IsFound, IsAbsent, IsPlace}
 use Rattle.map_chunks.specs.SecondKeys.{second_key}
@@ -27,7 +27,7 @@ use Rattle.map_chunks.specs.Shown.{Piece, shown, rows_or, IsTree, map_of_rows}
 use Rattle.map_nodes.specs.declared.nodes.Body.{Body}
 use Rattle.map_nodes.specs.declared.nodes.Body.TheVariants.{Inner}
 use Rattle.map_nodes.specs.declared.nodes.OwnChild.{OwnChild}
-use Rattle.map_nodes.specs.declared.nodes.OwnChild.TheVariants.{Own}
+use Rattle.map_nodes.specs.declared.nodes.OwnChild.TheVariants.{Own, Placed}
 use Rattle.map_nodes.specs.declared.nodes.removing.ChildAfter.{ChildAfter}
 use Rattle.map_nodes.specs.declared.nodes.removing.ChildAfter.TheVariants.{Leaves, Stays}
 use Rattle.map_nodes.proofs.ChangeLemmas.{IsLocal, changed, one_child, shown-kept}
@@ -41,7 +41,7 @@ use Rattle.map_chunks.proofs.RowLemmas.{cmp, turned, same_key, is_itself, AllBel
 use Rattle.map_chunks.proofs.RowLemmas.{rises_strict}
 use Rattle.map_nodes.proofs.ScanLemmas.{kid_shown-at, kid_shown-kept}
 use Rattle.map_chunks.proofs.ScanLemmas.{got_any}
-use Rattle.map_chunks.proofs.SearchLemmas.{Found, found_in, Absent, absent_in, got}
+use Rattle.map_chunks.proofs.SearchLemmas.{Found, found_in, Absent, absent_in}
 use Rattle.map_chunks.proofs.Texts.{same_text-itself}
 use Rattle.map_chunks.proofs.TreeLemmas.{map_is, map_from}
 
@@ -146,18 +146,6 @@ length-removed : {A : Type 0} (xs : List A) (i : ℕ) → i < length xs → leng
 length-removed [] i l = absurd (omega arith)
 length-removed (x ∷ xs) zero l = omega arith
 length-removed (x ∷ xs) (suc i) l = omega (arith, length-removed xs i (omega arith))
-
-pub fresh-removed : (kids : List OwnChild) (i : ℕ) → kids_fresh (remove kids i) ≤ kids_fresh kids
-fresh-removed [] zero = omega arith
-fresh-removed [] (suc i) = omega arith
-fresh-removed (k ∷ kids) zero = omega arith
-fresh-removed (k ∷ kids) (suc i) = let r = fresh-removed kids i in omega arith
-
-pub fresh-set : (kids : List OwnChild) (i : ℕ) (c x : OwnChild) → slice_get kids i ≡ Some c
-    → kids_fresh (set kids i x) + child_fresh c ≡ kids_fresh kids + child_fresh x
-fresh-set [] i c x h = absurd cc
-fresh-set (k ∷ kids) zero c x h = let e : child_fresh k ≡ child_fresh c = ap child_fresh (some_is h) in omega arith
-fresh-set (k ∷ kids) (suc i) c x h = let r = fresh-set kids i c x h in omega arith
 
 -- LEAVES
 
@@ -573,15 +561,22 @@ fate_down p q depth keys slice body kids pieces key first i child fate pre v e i
               (fate_here p depth keys kids.items pieces key i child fate n.1.2 d now) more,
         )
 
--- few new chunks, where the child stays
-pub stays_few : (q : Contents) (depth : ℕ) (kids ne : List OwnChild) (i : ℕ) (at : OwnChild)
-    (rows : OwnChild → Option Rows) → i < length kids → 0 < depth → ((c : OwnChild) → slice_get kids i ≡ Some c
-    → ChildChanged q (depth - 1) i kids ne c (rows c)) → kids_fresh ne + 1 ≤ kids_fresh kids + depth
-stays_few q depth kids ne i at rows w z done =
-    let child = get_or kids i at in
-    let g = got kids i at w in
-    by child g (done child g)
+-- whether it has one row, once more is placed
+pub fate_thin : (p q : Contents) (depth : ℕ) (keys slice : List Bytes) (body : Body) (kids : _) (pieces : List Piece)
+    (key : Bytes) (i : ℕ) (child : OwnChild) (fate : ChildAfter) → body_pieces depth keys body ≡ pieces
+    → body ≡ Inner kids → IsNode depth keys body → slice ≡ keys → IsPlace key slice i
+    → child ≡ get_or kids.items i child → IsTree (shown p pieces)
+    → (HasDepth (depth - 1) child → IsSome (child_rows p (depth - 1) child) → fate ≡ Leaves
+    → IsThinLater q (depth - 1) (child_levels (depth - 1) child)) → (c : OwnChild) → slice_get kids.items i ≡ Some c
+    → fate ≡ Leaves → IsThinLater q (depth - 1) (child_levels (depth - 1) c)
+fate_thin p q depth keys slice body kids pieces key i child fate v e inv s o g t h c at leaves =
+    let d = node_down p depth keys body kids pieces slice key i child v e inv s o g t in
+    let n : IsNode depth keys (Inner kids) = subst (IsNode depth keys) e inv in
+    let same : child ≡ c = some_is (sym (child_at kids.items i (length keys) child n.1.2
+    (omega (arith, o.0, ap length s)) g) ∙ at) in
+    subst (λ x. IsThinLater q (depth - 1) (child_levels (depth - 1) x)) same
+    (h (deep d.first child d.all.1) (subst IsSome (sym d.way.here_is) refl) leaves)
   where
-    by : (child : OwnChild) → slice_get kids i ≡ Some child → ChildChanged q (depth - 1) i kids ne child (rows child)
-        → kids_fresh ne + 1 ≤ kids_fresh kids + depth
-    by child g n = omega (arith, fresh-set kids i child (Own n.0) g, ap kids_fresh n.1, n.4, z)
+    deep : (first : Bytes) (x : OwnChild) → IsChild (depth - 1) first x → HasDepth (depth - 1) x
+    deep first (Placed at) k = tt
+    deep first (Own m) k = k.0

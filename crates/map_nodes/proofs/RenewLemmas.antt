@@ -1,7 +1,7 @@
 -- A value replaced below a chunk, and the map once a value is put.
-use Rattle.std.proofs.Common.{◌≡◌, ◌<◌, ◌+◌, ◌*◌, ◌-◌, ℕ, List, [], ◌∷◌, ◌++◌, Option, Some, None, length, slice_get}
-use Rattle.std.proofs.Common.{set, get_or, inl, inr, refl, sym, ap, ◌∙◌, subst, arith, append-nil, length-set, nat_cmp, cond}
-use Rattle.std.proofs.Common.{drop, Ordering, Less, Equal, Greater, is_eq}
+use Rattle.std.proofs.Common.{◌≡◌, ◌<◌, ◌-◌, ℕ, List, [], ◌∷◌, ◌++◌, Option, Some, None, length, slice_get, set, get_or}
+use Rattle.std.proofs.Common.{inl, inr, refl, sym, ap, ◌∙◌, subst, arith, append-nil, length-set, nat_cmp, cond, drop}
+use Rattle.std.proofs.Common.{Ordering, Less, Equal, Greater, is_eq}
 use Rattle.std.specs.Prelude.{IsSome}
 use Rattle.std.specs.Cmp.Lexicographic.{slice_cmp}
 use Rattle.std.specs.FinMap.{find, put}
@@ -20,20 +20,19 @@ use Rattle.map_chunks.specs.Places.{AreKept, places_of}
 use Rattle.map_chunks.specs.Search.{IsPlace}
 use Rattle.map_chunks.specs.Shown.{Piece, Seen, IsTree, child_keys, rows_or, shown}
 use Rattle.map_nodes.proofs.ChangeLemmas.{none_there, shown-kept}
-use Rattle.map_nodes.proofs.CountLemmas.{deep_same, wide_kept}
+use Rattle.map_nodes.proofs.CountLemmas.{wide_kept}
 use Rattle.map_nodes.proofs.KeptLevels.{levels-set, topped_changed}
 use Rattle.map_nodes.proofs.LevelLemmas.{changed_as}
 use Rattle.map_nodes.proofs.NamedLemmas.{kept-front}
 use Rattle.map_nodes.proofs.NodeLemmas.{Down}
 use Rattle.map_nodes.proofs.PathLemmas.{length-lowered}
 use Rattle.map_nodes.proofs.PutLevels.{lowered-parting, put_level, put_risen, put_same}
-use Rattle.map_nodes.proofs.RemoveLemmas.{fresh-set}
-use Rattle.map_nodes.specs.Inside.Counts.{half_fresh, HasKept}
+use Rattle.map_nodes.specs.Inside.Counts.{HasKept}
 use Rattle.map_nodes.specs.Inside.Halves.{half_pieces, lowered, with_half, IsLower, IsTopped}
 use Rattle.map_nodes.specs.Inside.Nodes.{child_rows}
 use Rattle.map_nodes.specs.Inside.Puts.{value_in, ChildReplaced, HalvesPut, HasReplaced, IsHalved, IsOwnPut}
 use Rattle.map_nodes.specs.Levels.{parting, seen_levels, topped, IsRenewed, RenewedLater}
-use Rattle.map_nodes.specs.Nodes.{kids_fresh, kids_levels}
+use Rattle.map_nodes.specs.Nodes.{kids_levels}
 use Rattle.map_nodes.specs.Others.{ArePutAmong}
 use Rattle.map_nodes.specs.Updating.{IsPutOn}
 use Rattle.map_nodes.specs.declared.nodes.OwnChild.{OwnChild}
@@ -58,7 +57,7 @@ pub inner_replaced : (q : Contents) (depth : ℕ) (keys now : List Bytes) (kids 
     → IsHalved depth now all made (keys_of (with_half i half (paired (lowered i lower keys) put)))
     (values_of (with_half i half (paired (lowered i lower keys) put)))
     → (half ≡ None → made ≡ None)
-    → HasReplaced q found v (kids_fresh kids + 1 + depth) (kids_fresh all + 1)
+    → HasReplaced q found v depth
     (λ p. topped (None, parting keys) (kids_levels (depth - 1) kids p))
     (λ p. topped (None, parting now) (kids_levels (depth - 1) all p)) made
 inner_replaced q depth keys now kids put all key i child lower half made found v above l g place low c parted whole t =
@@ -77,20 +76,19 @@ inner_replaced q depth keys now kids put all key i child lower half made found v
     let new = set kids i (Own n) in
     let all_are : all ≡ new = alone.1 ∙ values_of-paired ks put m ∙ c.1 in
     let shape : parting now ≡ parting keys = ap (λ w. child_keys (drop 1 w)) (alone.0 ∙ keys_of-paired ks put m)
-    ∙ ap (λ w. child_keys w) (lowered-parting keys key i lower place low) in
-    let f = fresh-set kids i child (Own n) g in (
+    ∙ ap (λ w. child_keys w) (lowered-parting keys key i lower place low) in (
       r.0,
       none,
-      omega (arith, f, r.2, above, ap kids_fresh all_are),
       λ later pre level.
           let was = kids_levels b kids later in
           let then = kids_levels b new later in
-          changed_as IsRenewed (topped (None, parting keys) was level) (topped (None, parting keys) then level)
+          changed_as (level < depth) IsRenewed (topped (None, parting keys) was level)
+          (topped (None, parting keys) then level)
           (topped (None, parting keys) was level) (topped (None, parting now) (kids_levels b all later) level) refl
           (ap (λ w. topped (None, w) (kids_levels b all later) level) shape
           ∙ ap (λ w. topped (None, parting keys) (kids_levels b w later) level) all_are)
-          (topped_changed IsRenewed (None, parting keys) was then
-          (λ k. levels-set IsRenewed later b kids i child (Own n) k g (r.3 later pre k)) level),
+          (topped_changed IsRenewed b depth (None, parting keys) was then (omega (arith, above))
+          (λ k. levels-set (k < b) IsRenewed later b kids i child (Own n) k g (r.2 later pre k)) level),
     )
 
 -- A WHOLE MAP
@@ -121,36 +119,28 @@ put_unchanged p q may key v n o pre tree found e = subst (IsPutOn p q may key v 
       ∙ ap (λ w. Some w) (sym (put-same key v k.rows k.order
       (ap (λ z. value_in z key) (sym k.is) ∙ found)))
       ∙ ap (λ z. Some (put (slice_cmp nat_cmp) key v (rows_or z))) (sym k.is);
-  few = omega arith;
-  replaced = λ t. omega arith;
   levels = put_same q n.depth n.depth (seen_levels n) (seen_levels n) refl (kept n);
   kept = λ t. kept n;
   others = λ other. absurd (other found);
-  deep = deep_same n.depth n.depth refl;
   wide = λ w. w;
   places_are = kept-same may (places_of n.pieces);
 })
   where
-    kept : (n : Seen) → RenewedLater q (seen_levels n) (seen_levels n)
+    kept : (n : Seen) → RenewedLater q n.depth (seen_levels n) (seen_levels n)
     kept n later pre level = inl refl
 
 -- a root that isn't split
 pub put_whole : (p q : Contents) (may : Ref → Type 0) (key v : Bytes) (n o : Seen) (half : Option Half) → half ≡ None
     → o.depth ≡ n.depth
-    → IsOwnPut q key v (shown p n.pieces) n.pieces o.pieces (n.fresh + n.depth) o.fresh (seen_levels n) (seen_levels o)
-    half
+    → IsOwnPut q key v (shown p n.pieces) n.pieces o.pieces n.depth (seen_levels n) (seen_levels o) half
     → AreKept may (places_of n.pieces) (places_of (o.pieces ++ half_pieces half))
-    → o.fresh + half_fresh half < n.fresh + 2 * n.depth → HasKept n.entries o.entries half → HalvesPut q n o half
-    → IsPutOn p q may key v n o
-put_whole p q may key v n o half e d made kept fresh entries levels = record {
+    → HasKept n.entries o.entries half → HalvesPut q n o half → IsPutOn p q may key v n o
+put_whole p q may key v n o half e d made kept entries levels = record {
   same = λ f. absurd ((made.renewed (subst IsSome (sym f) refl)).0 f);
   shown_is = ap (shown q) (sym whole) ∙ made.shown_is;
-  few = omega (arith, fresh);
-  replaced = λ t. omega (arith, (made.renewed t).2);
   levels = put_level q n.depth (seen_levels n) o half e d levels;
-  kept = λ t. (made.renewed t).3;
+  kept = λ t. (made.renewed t).2;
   others = λ other. subst (ArePutAmong q key v n.pieces) whole made.others;
-  deep = deep_same n.depth o.depth d;
   wide = wide_kept n o half e d entries;
   places_are = kept-front may (places_of n.pieces) o.pieces (half_pieces half) kept;
 }
@@ -161,25 +151,20 @@ put_whole p q may key v n o half e d made kept fresh entries levels = record {
 -- a root, or the one above its halves
 pub put_topped : (p q : Contents) (may : Ref → Type 0) (key v : Bytes) (n s o : Seen) (half : Option Half)
     → s.depth ≡ n.depth
-    → IsOwnPut q key v (shown p n.pieces) n.pieces s.pieces (n.fresh + n.depth) s.fresh (seen_levels n) (seen_levels s)
-    half
+    → IsOwnPut q key v (shown p n.pieces) n.pieces s.pieces n.depth (seen_levels n) (seen_levels s) half
     → AreKept may (places_of n.pieces) (places_of (s.pieces ++ half_pieces half))
-    → s.fresh + half_fresh half < n.fresh + 2 * n.depth → HasKept n.entries s.entries half → HalvesPut q n s half
-    → IsTopped s half o → IsPutOn p q may key v n o
-put_topped p q may key v n s o None d made kept fresh entries levels top = subst (IsPutOn p q may key v n) (sym top)
-    (put_whole p q may key v n s None refl d made kept fresh entries levels)
-put_topped p q may key v n s o (Some h) d made kept fresh entries levels top =
+    → HasKept n.entries s.entries half → HalvesPut q n s half → IsTopped s half o → IsPutOn p q may key v n o
+put_topped p q may key v n s o None d made kept entries levels top = subst (IsPutOn p q may key v n) (sym top)
+    (put_whole p q may key v n s None refl d made kept entries levels)
+put_topped p q may key v n s o (Some h) d made kept entries levels top =
     let split : IsSome (value_in (shown p n.pieces) key) → ⊥ =
     λ there. (let e : Some h ≡ None = (made.renewed there).1 in absurd cc) in
     record {
       same = λ found. absurd (split (subst IsSome (sym found) refl));
       shown_is = ap (shown q) top.0 ∙ made.shown_is;
-      few = omega (arith, top.2, fresh);
-      replaced = λ there. absurd (split there);
-      levels = put_risen q n.depth (seen_levels n) s o h d top.1 top.4 levels;
+      levels = put_risen q n.depth (seen_levels n) s o h d top.1 top.3 levels;
       kept = λ there. absurd (split there);
       others = λ other. subst (ArePutAmong q key v n.pieces) (sym top.0) made.others;
-      deep = (omega (arith, top.1, d), omega (arith, top.1, d));
-      wide = λ w. inr (omega (arith, top.3));
+      wide = λ w. inr (omega (arith, top.2));
       places_are = subst (λ ps. AreKept may (places_of n.pieces) (places_of ps)) (sym top.0) kept;
     }

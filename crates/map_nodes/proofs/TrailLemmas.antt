@@ -10,15 +10,16 @@ use Rattle.group_history.specs.Rows.{paired}
 use Rattle.group_history.specs.Spelling.{Contents}
 use Rattle.map_chunks.proofs.SearchLemmas.{got}
 use Rattle.map_chunks.specs.Search.{IsPlace}
-use Rattle.map_chunks.specs.Shown.{own, Seen, shown, IsTree}
+use Rattle.map_chunks.specs.Shown.{fresh, own, Seen, shown, IsTree}
 use Rattle.map_nodes.proofs.CopyLemmas.{placed_fresh}
+use Rattle.map_nodes.proofs.CountLemmas.{owned-inner}
 use Rattle.map_nodes.proofs.NodeLemmas.{Down, down}
 use Rattle.map_nodes.specs.Inside.Laying.{inner_seen}
 use Rattle.map_nodes.specs.Inside.Freezing.{kids_places}
 use Rattle.map_nodes.specs.Inside.Nodes.{Kid}
 use Rattle.map_nodes.specs.Levels.{parting}
-use Rattle.map_nodes.specs.Nodes.{AllKids, HeadIs, child_fresh, child_height, child_pieces, kids_fresh, kids_height}
-use Rattle.map_nodes.specs.Nodes.{kids_pieces, child_marks, kids_marks, sunk}
+use Rattle.map_nodes.specs.Nodes.{AllKids, HeadIs, child_height, child_pieces, kids_fresh, kids_height, kids_pieces}
+use Rattle.map_nodes.specs.Nodes.{child_marks, kids_marks, sunk}
 use Rattle.map_nodes.specs.Trails.{placed_kids, step_kids, step_seen, trail_seen, IsEnd, IsStep, IsTrail}
 use Rattle.map_nodes.specs.declared.nodes.OwnChild.{OwnChild}
 use Rattle.map_nodes.specs.declared.nodes.OwnChild.TheVariants.{Placed, Own}
@@ -51,12 +52,6 @@ same_height [] i n m e = refl
 same_height (x ∷ xs) zero n m e = ap (λ (s : Seen). max (s.height + 1) (kids_height xs)) e
 same_height (x ∷ xs) (suc i) n m e = ap (λ w. max (child_height x) w) (same_height xs i n m e)
 
-same_fresh : (xs : List OwnChild) (i : ℕ) (n m : Kid) → n.value ≡ m.value
-    → kids_fresh (set xs i (Own n)) ≡ kids_fresh (set xs i (Own m))
-same_fresh [] i n m e = refl
-same_fresh (x ∷ xs) zero n m e = ap (λ (s : Seen). s.fresh + kids_fresh xs) e
-same_fresh (x ∷ xs) (suc i) n m e = ap (λ w. child_fresh x + w) (same_fresh xs i n m e)
-
 same_marks : (b : ℕ) (xs : List OwnChild) (i : ℕ) (n m : Kid) → n.value ≡ m.value
     → kids_marks b (set xs i (Own n)) ≡ kids_marks b (set xs i (Own m))
 same_marks b [] i n m e = refl
@@ -81,20 +76,21 @@ step-pairs s below h = length-set (placed_kids s.children.items) s.place (Own (k
     s.children.items ∙ h.1
 
 pub fresh_placed : (ats : List Ref) (i : ℕ) (n : Kid) → i < length ats
-    → kids_fresh (set (placed_kids ats) i (Own n)) ≡ n.value.fresh
+    → kids_fresh (set (placed_kids ats) i (Own n)) ≡ fresh n.value
 fresh_placed [] i n l = absurd (omega arith)
 fresh_placed (a ∷ ats) zero n l = let r = placed_fresh ats in omega (arith, r)
 fresh_placed (a ∷ ats) (suc i) n l = let r = fresh_placed ats i n (omega arith) in omega (arith, r)
 
-pub step-fresh : (s : Step) (below : Seen) → IsStep s below → (step_seen s below).fresh ≡ below.fresh + 1
-step-fresh s below h = ap (λ n. n + 1) (fresh_placed s.children.items s.place (kid_of s below)
-    (omega (arith, h.1, h.2)))
+pub step-fresh : (s : Step) (below : Seen) → IsStep s below → fresh (step_seen s below) ≡ fresh below + 1
+step-fresh s below h =
+    owned-inner below.depth (parting (arc_value s.keys)) (step_kids s below)
+    ∙ ap (λ n. n + 1) (fresh_placed s.children.items s.place (kid_of s below) (omega (arith, h.1, h.2)))
 
 pub trail_depth : (ss : List Step) (e : End) → (trail_seen ss e).depth ≡ length ss + 1
 trail_depth [] e = omega arith
 trail_depth (s ∷ ss) e = let r = trail_depth ss e in omega (arith, r)
 
-pub trail_fresh : (ss : List Step) (e : End) → IsTrail ss e → (trail_seen ss e).fresh ≡ length ss + 1
+pub trail_fresh : (ss : List Step) (e : End) → IsTrail ss e → fresh (trail_seen ss e) ≡ length ss + 1
 trail_fresh [] e h = omega arith
 trail_fresh (s ∷ ss) e h = let r = trail_fresh ss e h.1 in omega (arith, r, step-fresh s (trail_seen ss e) h.0)
 
@@ -118,7 +114,6 @@ seen_over s below n depth keys kids d k v e =
       entries = length texts;
       pieces = kids_pieces b (paired texts (set xs s.place (Own n)));
       height = kids_height (set xs s.place (Own n)) + 2;
-      fresh = kids_fresh (set xs s.place (Own n)) + 1;
       marks = own 0 (parting texts) ∷ sunk (kids_marks b (set xs s.place (Own n)));
     }) (one_less below.depth)
     ∙ ap (λ w. record {
@@ -126,7 +121,6 @@ seen_over s below n depth keys kids d k v e =
       entries = length texts;
       pieces = w;
       height = kids_height (set xs s.place (Own n)) + 2;
-      fresh = kids_fresh (set xs s.place (Own n)) + 1;
       marks = own 0 (parting texts) ∷ sunk (kids_marks below.depth (set xs s.place (Own n)));
     }) (same_pieces below.depth texts xs s.place n m v)
     ∙ ap (λ w. record {
@@ -134,7 +128,6 @@ seen_over s below n depth keys kids d k v e =
       entries = length texts;
       pieces = kids_pieces below.depth (paired texts (set xs s.place (Own m)));
       height = w + 2;
-      fresh = kids_fresh (set xs s.place (Own n)) + 1;
       marks = own 0 (parting texts) ∷ sunk (kids_marks below.depth (set xs s.place (Own n)));
     }) (same_height xs s.place n m v)
     ∙ ap (λ w. record {
@@ -142,15 +135,6 @@ seen_over s below n depth keys kids d k v e =
       entries = length texts;
       pieces = kids_pieces below.depth (paired texts (set xs s.place (Own m)));
       height = kids_height (set xs s.place (Own m)) + 2;
-      fresh = w + 1;
-      marks = own 0 (parting texts) ∷ sunk (kids_marks below.depth (set xs s.place (Own n)));
-    }) (same_fresh xs s.place n m v)
-    ∙ ap (λ w. record {
-      depth = below.depth + 1;
-      entries = length texts;
-      pieces = kids_pieces below.depth (paired texts (set xs s.place (Own m)));
-      height = kids_height (set xs s.place (Own m)) + 2;
-      fresh = kids_fresh (set xs s.place (Own m)) + 1;
       marks = own 0 (parting texts) ∷ sunk w;
     }) (same_marks below.depth xs s.place n m v)
 

@@ -35,11 +35,8 @@ made_root q may k d key v rows n root None a m t =
     subst (IsPutRoot q q may k d rows key v) (sym t) (record {
       other = a;
       shown_is = ap (shown q) (sym (append-nil n.pieces)) ∙ m.shown_is;
-      few = omega (arith, m.few);
-      replaced = λ s. (m.replaced s).1;
       levels = put_level q d (λ p. placed_levels p d k) n None refl m.depth_is m.levels;
-      kept = λ s. (m.replaced s).2;
-      deep = (omega (arith, m.depth_is), omega (arith, m.depth_is));
+      kept = λ s. (m.replaced s).1;
       wide = m.wide;
       places_are = subst (λ ps. AreKept may [] (places_of ps)) (append-nil n.pieces) m.kept;
     })
@@ -48,12 +45,9 @@ made_root q may k d key v rows n root (Some h) a m t =
     record {
       other = a;
       shown_is = ap (shown q) t.0 ∙ m.shown_is;
-      few = omega (arith, m.few, t.2);
-      replaced = λ s. absurd (whole s);
-      levels = put_risen q d (λ p. placed_levels p d k) n root h m.depth_is t.1 t.4 m.levels;
+      levels = put_risen q d (λ p. placed_levels p d k) n root h m.depth_is t.1 t.3 m.levels;
       kept = λ s. absurd (whole s);
-      deep = (omega (arith, m.depth_is, t.1), omega (arith, m.depth_is, t.1));
-      wide = λ w. inr (omega (arith, t.3));
+      wide = λ w. inr (omega (arith, t.2));
       places_are = subst (λ ps. AreKept may [] (places_of ps)) (sym t.0) m.kept;
     }
   where
@@ -93,11 +87,8 @@ updated_since p q r may k key (Put v) x g t h = (h.0, by x.root h.1)
           record {
             other = s.other;
             shown_is = s.shown_is;
-            few = s.few;
-            replaced = s.replaced;
             levels = s.levels;
             kept = s.kept;
-            deep = s.deep;
             wide = λ w. s.wide (wide_later p q d k (subst IsTree (tree_is p k t ∙ sym was) t) g w);
             places_are = s.places_are;
           },

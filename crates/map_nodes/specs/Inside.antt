@@ -5,8 +5,8 @@ pub mod Falls
 pub mod Scanning
 pub mod Copies
 pub mod Freezing
--- A put: the upper half of a chunk that was split, how many chunks and keys there are then, what is ready before it,
--- why a row isn't put, and what is made of the chunks.
+-- A put: the upper half of a chunk that was split, how many keys there are then, what is ready before it, why a row
+-- isn't put, and what is made of the chunks.
 pub mod Halves
 pub mod Counts
 pub mod Ready

@@ -1,5 +1,5 @@
--- Of which chunks a map consists, level by level, and what a put makes of them. A chunk has at most 16 entries: a 17th
--- splits it into the first 8 and the last 9. This project's own rule.
+-- Of which chunks a map consists, level by level, and what a put and a removal make of them. A chunk has at most 16
+-- entries: a 17th splits it into the first 8 and the last 9. One with no entry goes. This project's own rules.
 use Rattle.std.specs.Prelude.{◌≡◌, ◌⊎◌, ◌==◌, ℕ, zero, suc, ◌+◌, ◌-◌, ◌<◌, ◌≤◌, nat_le, if◌then◌else◌, List, [], ◌∷◌}
 use Rattle.std.specs.Prelude.{◌++◌, map, length, take, drop, Option, Some, None, slice_get}
 use Rattle.std.specs.List.{flat_map}
@@ -74,9 +74,18 @@ abbrev pub HasMade : (Shape → List Shape → Type 0) → List Member → List 
 HasMade Became old new = (before : List Member) × (chunk : Member) × (after : List Member) × (made : List Shape)
     × (old ≡ before ++ chunk ∷ after) × (new ≡ before ++ (as_new made ++ after)) × Became chunk.1 made
 
--- the chunks of a level are the same, or new ones stand in the place of one
-abbrev pub AreChanged : (Shape → List Shape → Type 0) → List Member → List Member → Type 0
-AreChanged Became old new = (new ≡ old) ⊎ HasMade Became old new
+-- the chunks of a level are the same, or new ones stand in the place of one, where this may be
+abbrev pub AreChanged : Type 0 → (Shape → List Shape → Type 0) → List Member → List Member → Type 0
+AreChanged May Became old new = (new ≡ old) ⊎ (May × HasMade Became old new)
+
+-- The first chunk is a new one with the keys of the old one, and below it are the same chunks.
+abbrev pub IsCopied : Levels → Levels → Type 0
+IsCopied old new = ((stamp : Option ℕ) × (keys : Shape) × (old 0 ≡ (stamp, keys) ∷ []) × (new 0 ≡ (None, keys) ∷ []))
+    × ((level : ℕ) → new (suc level) ≡ old (suc level))
+
+-- so it is whatever is placed later
+abbrev pub CopiedLater : Contents → (Contents → Levels) → (Contents → Levels) → Type 0
+CopiedLater contents old new = (later : Contents) → IsPrefix contents later → IsCopied (old later) (new later)
 
 -- A VALUE REPLACED
 
@@ -84,11 +93,11 @@ AreChanged Became old new = (new ≡ old) ⊎ HasMade Became old new
 abbrev pub IsRenewed : Shape → List Shape → Type 0
 IsRenewed keys made = made ≡ keys ∷ []
 
--- Whatever is placed later: on each level one chunk at most is new, and it has the keys of the one in whose place it
--- stands.
-abbrev pub RenewedLater : Contents → (Contents → Levels) → (Contents → Levels) → Type 0
-RenewedLater contents old new = (later : Contents) → IsPrefix contents later → (level : ℕ)
-    → AreChanged IsRenewed (old later level) (new later level)
+-- Whatever is placed later: on each of so many levels one chunk at most is new, and it has the keys of the one in whose
+-- place it stands.
+abbrev pub RenewedLater : Contents → ℕ → (Contents → Levels) → (Contents → Levels) → Type 0
+RenewedLater contents deep old new = (later : Contents) → IsPrefix contents later → (level : ℕ)
+    → AreChanged (level < deep) IsRenewed (old later level) (new later level)
 
 -- A PUT
 
@@ -116,22 +125,64 @@ IsSplit (child_keys keys) made = (more : List Bytes) × (length keys ≡ 15) × 
 abbrev pub IsGrown : Shape → List Shape → Type 0
 IsGrown keys made = IsRenewed keys made ⊎ IsWider keys made ⊎ IsSplit keys made
 
-abbrev pub AreGrown : List Member → List Member → Type 0
-AreGrown = AreChanged IsGrown
-
-abbrev pub ArePut : Levels → Levels → Type 0
-ArePut old new = (level : ℕ) → AreGrown (old level) (new level)
+-- on each of so many levels one chunk at most is on the way, and all others are the same
+abbrev pub ArePut : ℕ → Levels → Levels → Type 0
+ArePut deep old new = (level : ℕ) → AreChanged (level < deep) IsGrown (old level) (new level)
 
 -- What a put makes of a map that was so deep, and is so deep then. Where it is deeper, a root of two stands above the
 -- halves of the old one.
 abbrev pub ArePutIn : ℕ → ℕ → Levels → Levels → Type 0
-ArePutIn was deep old new = ((level : ℕ) → AreGrown (old level) (new (level + (deep - was))))
+ArePutIn was deep old new = (was ≤ deep) × (deep ≤ was + 1) × ArePut was old (λ level. new (level + (deep - was)))
     × (was < deep → (key : Bytes) × (new 0 ≡ (None, child_keys (key ∷ [])) ∷ []))
 
 -- whatever is placed later, this is what a put makes of a map
 abbrev pub PutLater : ℕ → ℕ → Contents → (Contents → Levels) → (Contents → Levels) → Type 0
 PutLater was deep contents old new = (later : Contents) → IsPrefix contents later
     → ArePutIn was deep (old later) (new later)
+
+-- A REMOVAL
+
+-- A chunk has an entry less: a row, or a child.
+abbrev pub IsNarrower : Shape → List Shape → Type 0
+IsNarrower (leaf_keys keys) made = (fewer : List Bytes) × HasOneMore fewer keys × (made ≡ leaf_keys fewer ∷ [])
+IsNarrower (child_keys keys) made = (fewer : List Bytes) × HasOneMore fewer keys × (made ≡ child_keys fewer ∷ [])
+
+-- A child lost its first row, and another key parts it from the child before it.
+abbrev pub IsParted : Shape → List Shape → Type 0
+IsParted (leaf_keys keys) made = ⊥
+IsParted (child_keys keys) made = (low : List Bytes) × (key : Bytes) × (next : Bytes) × (high : List Bytes)
+    × (keys ≡ low ++ key ∷ high) × (made ≡ child_keys (low ++ next ∷ high) ∷ [])
+
+-- A chunk of one row, or of one child, at most is gone, and nothing stands in its place.
+abbrev pub IsGone : Shape → List Shape → Type 0
+IsGone (leaf_keys keys) made = (length keys ≤ 1) × (made ≡ [])
+IsGone (child_keys keys) made = (keys ≡ []) × (made ≡ [])
+
+-- What becomes of a chunk on the way to a key that is removed: it keeps its keys, loses one, has another one between
+-- two children, or goes.
+abbrev pub IsShrunk : Shape → List Shape → Type 0
+IsShrunk keys made = IsRenewed keys made ⊎ IsNarrower keys made ⊎ IsParted keys made ⊎ IsGone keys made
+
+-- on each of so many levels one chunk at most is on the way, and all others are the same
+abbrev pub AreShrunk : ℕ → Levels → Levels → Type 0
+AreShrunk deep old new = (level : ℕ) → AreChanged (level < deep) IsShrunk (old level) (new level)
+
+-- so it is whatever is placed later
+abbrev pub ShrunkLater : Contents → ℕ → (Contents → Levels) → (Contents → Levels) → Type 0
+ShrunkLater contents deep old new = (later : Contents) → IsPrefix contents later
+    → AreShrunk deep (old later) (new later)
+
+-- What a removal makes of a map that was so deep, and is so deep then. Where it is less deep, the topmost levels are
+-- gone: a root that would keep one child gives way to it, and so does the child where it has but one. Two chunks at
+-- most stood on each of these levels.
+abbrev pub AreRemovedIn : ℕ → ℕ → Levels → Levels → Type 0
+AreRemovedIn was deep old new = (gone : ℕ) × (gone + deep ≡ was) × AreShrunk deep (λ level. old (level + gone)) new
+    × ((level : ℕ) → level < gone → length (old level) ≤ 2)
+
+-- whatever is placed later, this is what a removal makes of a map
+abbrev pub RemovedLater : ℕ → ℕ → Contents → (Contents → Levels) → (Contents → Levels) → Type 0
+RemovedLater was deep contents old new = (later : Contents) → IsPrefix contents later
+    → AreRemovedIn was deep (old later) (new later)
 
 -- A FREEZE
 

@@ -4,7 +4,7 @@ use Rattle.group_history.specs.Map.{Bytes}
 use Rattle.group_history.specs.Refs.{stamp_of}
 use Rattle.group_history.specs.Rows.{Rows, AreKeys, paired}
 use Rattle.group_history.specs.Spelling.{Contents}
-use Rattle.map_chunks.specs.Shown.{value, chunk, own, placed, Mark, Piece, leaf_keys}
+use Rattle.map_chunks.specs.Shown.{value, chunk, own, placed, Mark, Piece, fresh, leaf_keys}
 use Rattle.map_nodes.specs.Levels.{Levels, nothing, parting, placed_levels, seen_levels, topped}
 use Rattle.map_nodes.specs.declared.nodes.OwnChild.{OwnChild}
 use Rattle.map_nodes.specs.declared.nodes.OwnChild.TheVariants.{Placed, Own}
@@ -69,15 +69,11 @@ body_height (Inner kids) = kids_height kids.items + 2
 -- how many own chunks it is
 abbrev pub child_fresh : OwnChild → ℕ
 child_fresh (Placed at) = 0
-child_fresh (Own n) = n.value.fresh
+child_fresh (Own n) = fresh n.value
 
 abbrev pub kids_fresh : List OwnChild → ℕ
 kids_fresh [] = 0
 kids_fresh (k ∷ ks) = child_fresh k + kids_fresh ks
-
-abbrev pub body_fresh : Body → ℕ
-body_fresh (Leaf values) = 1
-body_fresh (Inner kids) = kids_fresh kids.items + 1
 
 -- marks one level further below
 abbrev pub sunk : List Mark → List Mark

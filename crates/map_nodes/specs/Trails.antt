@@ -6,7 +6,7 @@ use Rattle.group_history.specs.declared.refs.Ref.{Ref}
 use Rattle.group_history.specs.Rows.{AreKeys, paired}
 use Rattle.map_chunks.specs.Shown.{own, leaf_keys, Seen}
 use Rattle.map_nodes.specs.Levels.{parting}
-use Rattle.map_nodes.specs.Nodes.{AllKids, kids_fresh, kids_height, kids_marks, kids_pieces, row_pieces, sunk}
+use Rattle.map_nodes.specs.Nodes.{AllKids, kids_height, kids_marks, kids_pieces, row_pieces, sunk}
 use Rattle.map_nodes.specs.declared.nodes.OwnChild.{OwnChild}
 use Rattle.map_nodes.specs.declared.nodes.OwnChild.TheVariants.{Placed, Own}
 use Rattle.map_nodes.specs.declared.nodes.trails.End.{End}
@@ -33,7 +33,6 @@ step_seen s below = record {
   entries = length (arc_value s.keys);
   pieces = kids_pieces below.depth (paired (arc_value s.keys) (step_kids s below));
   height = kids_height (step_kids s below) + 2;
-  fresh = kids_fresh (step_kids s below) + 1;
   marks = own 0 (parting (arc_value s.keys)) ∷ sunk (kids_marks below.depth (step_kids s below));
 }
 
@@ -43,7 +42,6 @@ leaf_seen e = record {
   entries = length (arc_value e.keys);
   pieces = row_pieces (paired (arc_value e.keys) e.values.items);
   height = 1;
-  fresh = 1;
   marks = own 0 (leaf_keys (arc_value e.keys)) ∷ [];
 }
 

@@ -1,5 +1,5 @@
 -- What a put and an update make of a map.
-use Rattle.std.specs.Prelude.{◌≡◌, ℕ, ◌+◌, ◌*◌, ◌≤◌, [], Option, Some, None, IsSome}
+use Rattle.std.specs.Prelude.{◌≡◌, ℕ, [], Option, Some, None, IsSome}
 use Rattle.std.specs.Ordering.{nat_cmp}
 use Rattle.std.specs.Cmp.Lexicographic.{slice_cmp}
 use Rattle.std.specs.FinMap.{find, put}
@@ -24,12 +24,9 @@ pub record IsPutRoot (old new : Contents) (places : Ref → Type 0) (stamp depth
     (n : Seen) : Type 0 where
   pub other : find (slice_cmp nat_cmp) key rows ≡ Some value → ⊥
   pub shown_is : shown new n.pieces ≡ Some (put (slice_cmp nat_cmp) key value rows)
-  pub few : n.fresh ≤ depth + depth + 1
-  pub replaced : IsSome (find (slice_cmp nat_cmp) key rows) → n.fresh ≤ depth
   pub levels : PutLater depth n.depth new (λ p. placed_levels p depth stamp) (seen_levels n)
   pub kept : IsSome (find (slice_cmp nat_cmp) key rows)
-      → RenewedLater new (λ p. placed_levels p depth stamp) (seen_levels n)
-  pub deep : (depth ≤ n.depth) × (n.depth ≤ depth + 1)
+      → RenewedLater new depth (λ p. placed_levels p depth stamp) (seen_levels n)
   pub wide : IsWideAt old stamp → IsWideChunk n
   pub places_are : AreKept places [] (places_of n.pieces)
 
@@ -37,14 +34,11 @@ pub record IsPutRoot (old new : Contents) (places : Ref → Type 0) (stamp depth
 pub record IsPutOn (old new : Contents) (places : Ref → Type 0) (key value : Bytes) (n o : Seen) : Type 0 where
   pub same : find (slice_cmp nat_cmp) key (rows_or (shown old n.pieces)) ≡ Some value → o ≡ n
   pub shown_is : shown new o.pieces ≡ Some (put (slice_cmp nat_cmp) key value (rows_or (shown old n.pieces)))
-  pub few : o.fresh ≤ n.fresh + 2 * n.depth
-  pub replaced : IsSome (find (slice_cmp nat_cmp) key (rows_or (shown old n.pieces))) → o.fresh ≤ n.fresh + n.depth
   pub levels : PutLater n.depth o.depth new (seen_levels n) (seen_levels o)
   pub kept : IsSome (find (slice_cmp nat_cmp) key (rows_or (shown old n.pieces)))
-      → RenewedLater new (seen_levels n) (seen_levels o)
+      → RenewedLater new n.depth (seen_levels n) (seen_levels o)
   pub others : (find (slice_cmp nat_cmp) key (rows_or (shown old n.pieces)) ≡ Some value → ⊥)
       → ArePutAmong new key value n.pieces o.pieces
-  pub deep : (n.depth ≤ o.depth) × (o.depth ≤ n.depth + 1)
   pub wide : IsWideChunk n → IsWideChunk o
   pub places_are : AreKept places (places_of n.pieces) (places_of o.pieces)
 

@@ -53,14 +53,13 @@ impl Model for OwnNode {
     ghost Value = { Seen };
 
     ghost use Rattle.std.specs.Prelude.{length};
-    ghost use Rattle.map_nodes.specs.Nodes.{body_pieces, body_height, body_fresh, body_marks, IsNode};
+    ghost use Rattle.map_nodes.specs.Nodes.{body_pieces, body_height, body_marks, IsNode};
 
     ghost view = { λ n. record {
       depth = n.depth;
       entries = length n.keys.texts;
       pieces = body_pieces n.depth n.keys.texts n.body;
       height = body_height n.body;
-      fresh = body_fresh n.body;
       marks = body_marks n.depth n.keys.texts n.body;
     } };
 

@@ -18,13 +18,13 @@ ghost use Rattle.map_chunks.specs.Drafts.{AddsNeeded, AreBelow, IsLate};
 ghost use Rattle.map_chunks.specs.Places.{with_nodes, Grows, AreAll, AreKept, AddsNamed, places_of};
 ghost use Rattle.map_chunks.specs.Scanning.{taken, Gave, IsLow};
 ghost use Rattle.map_chunks.specs.Seeking.{chunk_depth, is_in};
-ghost use Rattle.map_chunks.specs.Shown.{chunk_rows, own, leaf_keys, shown, IsTree, rows_or};
+ghost use Rattle.map_chunks.specs.Shown.{chunk_rows, fresh, own, leaf_keys, shown, IsTree, rows_or};
 ghost use Rattle.map_nodes.specs.Changes.{CanMake, Makes};
 ghost use Rattle.map_nodes.specs.Inside.Laying.{IsReached};
 ghost use Rattle.map_nodes.specs.Updating.{IsPutOr, IsUpdated};
 ghost use Rattle.map_chunks.specs.Wide.{IsWideAt, IsWideChunk};
-ghost use Rattle.map_nodes.specs.Removing.{root_left, without, root_rows, IsWideRoot, IsLowRoot};
-ghost use Rattle.map_nodes.specs.Levels.{placed_levels, seen_levels, NamedLater, PutLater};
+ghost use Rattle.map_nodes.specs.Removing.{root_left, without, root_rows, IsRootRemoved, IsWideRoot};
+ghost use Rattle.map_nodes.specs.Levels.{placed_levels, seen_levels, CopiedLater, NamedLater, PutLater};
 
 use crate::changes::Change;
 use crate::nodes::{Down, Laying, OwnNode, Reached, Trail, change_at, topped};
@@ -82,7 +82,6 @@ impl OwnRoot {
     pub fn empty(alloc: Global) -> OwnRoot
         ensures depth { result.depth ≡ 1 }
         ensures pieces { result.pieces ≡ [] }
-        ensures fresh { result.fresh ≡ 1 }
         ensures marks { result.marks ≡ own 0 (leaf_keys []) ∷ [] }
     {
         OwnRoot::new(OwnNode::empty(alloc))
@@ -101,7 +100,8 @@ impl OwnRoot {
         ensures depth { IfOk result (λ n. n.depth ≡ depth) }
         ensures rows { IfOk result (λ n. shown (C.contents chunks.new) n.pieces
             ≡ rows_at (C.contents chunks.old) depth (stamp_of at)) }
-        ensures fresh { IfOk result (λ n. n.fresh ≡ 1) }
+        ensures levels { IfOk result (λ n. CopiedLater (C.contents chunks.new)
+            (λ p. placed_levels p depth (stamp_of at)) (seen_levels n)) }
         ensures places { IfOk result (λ n. AreKept (C.places chunks.new) [] (places_of n.pieces)) }
         ensures wide { IsWideAt (C.contents chunks.new) (stamp_of at) → IfOk result IsWideChunk }
         ensures stopped { IfErr result (λ s. (s ≡ NoMemory) ⊎ C.stops s) }
@@ -189,7 +189,7 @@ impl OwnRoot {
     /// How many own chunks there are, from this one down. No machine has so many that the count stops at
     /// the largest number.
     pub fn new_chunks(&self) -> u64
-        ensures { result ≡ min self.now.fresh (2 ^ 64 - 1) }
+        ensures { result ≡ min (fresh self.now) (2 ^ 64 - 1) }
     {
         match &self.form {
             Form::Node(node) => node.new_chunks(),
@@ -310,8 +310,8 @@ impl OwnRoot {
             ≡ Some (without key.now (rows_or (shown (C.contents chunks.old) self.old.pieces)))) }
         ensures places { IfOk result (λ root. AreKept (C.places chunks.new) (places_of self.old.pieces)
             (root_left self.new root)) }
-        ensures few { OnOk result (self.new.fresh + 1 ≤ self.old.fresh + self.old.depth) }
-        ensures deep { IfOk result (IsLowRoot (C.contents chunks.new) self.old.depth self.new) }
+        ensures levels { IfOk result (IsRootRemoved (C.contents chunks.new) self.old.depth (seen_levels self.old)
+            self.new) }
         ensures wide { IsWideChunk self.old → IfOk result (IsWideRoot (C.contents chunks.new) self.new) }
         ensures err { OnErr result (self.new ≡ self.old) }
         ensures stopped { IfErr result (λ s. (s ≡ NoMemory) ⊎ C.stops s) }
@@ -345,8 +345,8 @@ impl OwnRoot {
         ensures needed { IfOk result (λ at. AddsNeeded [] (at ∷ []) draft.old draft.new) }
         ensures drafted { IfOk result (λ at. (draft.old.first ≤ stamp_of at) × (slot_of at ≡ 0)) }
         ensures below { IfOk result (λ at. stamp_of at < draft.new.first + length draft.new.nodes) }
-        ensures count { OnOk result (length draft.new.nodes ≡ length draft.old.nodes + self.fresh) }
-        ensures bound { OnErr result (length draft.new.nodes < length draft.old.nodes + self.fresh) }
+        ensures count { OnOk result (length draft.new.nodes ≡ length draft.old.nodes + fresh self) }
+        ensures bound { OnErr result (length draft.new.nodes < length draft.old.nodes + fresh self) }
         ensures first { draft.new.first ≡ draft.old.first }
         ensures grown { IsPrefix draft.old.nodes draft.new.nodes }
         ensures why { IfErr result (λ e. (e ≡ refusal.NoMemory)
@@ -425,12 +425,12 @@ pub fn frozen(alloc: Global, root: OwnRoot, draft: &mut Draft) -> Result<Ref, Re
     ensures needed { IfOk result (λ at. AddsNeeded [] (at ∷ []) draft.old draft.new) }
     ensures drafted { IfOk result (λ at. (draft.old.first ≤ stamp_of at) × (slot_of at ≡ 0)) }
     ensures below { IfOk result (λ at. stamp_of at < draft.new.first + length draft.new.nodes) }
-    ensures count { OnOk result (length draft.new.nodes ≡ length draft.old.nodes + root.fresh) }
+    ensures count { OnOk result (length draft.new.nodes ≡ length draft.old.nodes + fresh root) }
     ensures first { draft.new.first ≡ draft.old.first }
     ensures grown { IsPrefix draft.old.nodes draft.new.nodes }
     ensures err { OnErr result (draft.new ≡ draft.old) }
     ensures why { IfErr result (λ e. (e ≡ refusal.NoMemory)
-        ⊎ ((e ≡ refusal.Stamps) × (stamps < draft.old.first + length draft.old.nodes + root.fresh))) }
+        ⊎ ((e ≡ refusal.Stamps) × (stamps < draft.old.first + length draft.old.nodes + fresh root))) }
     ensures late { IfErr result (λ e. e ≡ refusal.Stamps → IsLate draft.old.first) }
 {
     let len = draft.len();

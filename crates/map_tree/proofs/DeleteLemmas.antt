@@ -1,5 +1,5 @@
 -- What a removal makes of a map.
-use Rattle.std.proofs.Common.{◌≡◌, ◌≤◌, ℕ, Bool, false, true, is_some, Option, Some, None, refl, sym, ◌∙◌, arith}
+use Rattle.std.proofs.Common.{◌≡◌, ℕ, Bool, false, true, is_some, Option, Some, None, refl, sym, ◌∙◌}
 use Rattle.std.specs.Prelude.{option_and_then}
 use Rattle.std.specs.FinMap as finite
 use mathlib.Core.List.{IsPrefix}
@@ -10,12 +10,15 @@ use Rattle.group_history.specs.Refs.{stamp_of}
 use Rattle.group_history.specs.Rows.{Rows}
 use Rattle.group_history.specs.Spelling.{Contents, Segment, segment_at}
 use Rattle.group_history.proofs.Spellings.{segment-content}
-use Rattle.map_tree.specs.Trees.{root_places, root_map, root_depth, root_fresh, root_or, IsWide}
-use Rattle.map_nodes.specs.Removing.{without, root_left, root_rows, IsLowRoot, IsWideRoot}
+use Rattle.map_tree.specs.Trees.{root_levels, root_places, root_map, root_depth, root_or, IsWide}
+use Rattle.map_nodes.specs.Removing.{without, root_left, root_rows, IsRootRemoved, IsWideRoot}
+use Rattle.map_nodes.specs.Levels.{placed_levels, Levels, RemovedLater}
 use Rattle.map_chunks.specs.Shown.{Seen, shown, chunk_rows, rows_or, map_of_rows}
 use Rattle.map_chunks.specs.Wide.{IsWideAt}
-use Rattle.map_tree.specs.declared.tree.Root.TheVariants.{Own}
+use Rattle.map_tree.specs.declared.tree.Root.TheVariants.{Own, Placed}
 use Rattle.map_nodes.proofs.RemoveLemmas.{map_removed}
+use Rattle.map_nodes.proofs.RemoveLevels.{removed_as}
+use Rattle.map_tree.proofs.RootCounts.{placed_as}
 use Rattle.map_chunks.proofs.TreeLemmas.{map_at-rows}
 use Rattle.map_nodes.proofs.WideLemmas.{wide_grown}
 
@@ -37,18 +40,20 @@ pub removed_wide : (q : Contents) (n : Seen) (end : Option Ref) → IsWideRoot q
 removed_wide q n None w = w
 removed_wide q n (Some at) w = w
 
-pub removed_depth : (q : Contents) (d : ℕ) (n : Seen) (end : Option Ref) → IsLowRoot q d n end
-    → (e : ℕ) × (root_depth q (root_or end (Own n)) ≡ Some e) × (e ≤ d)
-removed_depth q d n None h = (n.depth, refl, h)
-removed_depth q d n (Some at) h = h
+pub removed_levels : (q : Contents) (was : ℕ) (old : Contents → Levels) (n : Seen) (end : Option Ref)
+    → IsRootRemoved q was old n end → (e : ℕ) × (root_depth q (root_or end (Own n)) ≡ Some e)
+    × RemovedLater was e q old (root_levels (root_or end (Own n)))
+removed_levels q was old n None h = (n.depth, refl, h)
+removed_levels q was old n (Some at) h = (
+  h.0,
+  h.1,
+  removed_as q was h.0 old (λ p. placed_levels p h.0 (stamp_of at)) old (root_levels (Placed at)) (λ p pre i. refl)
+      (λ p pre i. placed_as q p (Placed at) at h.0 refl h.1 pre i) h.2,
+)
 
 pub removed_places : (n : Seen) (end : Option Ref) → root_left n end ≡ root_places (root_or end (Own n))
 removed_places n None = refl
 removed_places n (Some at) = refl
-
-pub removed_fresh : (n : Seen) (end : Option Ref) → root_fresh (root_or end (Own n)) ≤ n.fresh
-removed_fresh n None = omega arith
-removed_fresh n (Some at) = omega arith
 
 -- a key that wasn't found isn't there
 pub not_there : (there : Bool) (o : Option Bytes) → there ≡ is_some o → there ≡ false → o ≡ None

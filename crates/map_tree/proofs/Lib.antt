@@ -1,4 +1,5 @@
 mod DeleteLemmas
+mod LevelCounts
 mod PlaceLemmas
 mod PutTrees
 pub mod RootCounts

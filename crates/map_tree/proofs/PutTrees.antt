@@ -1,5 +1,5 @@
 -- What a put and an update make of a tree, by what they make of its root.
-use Rattle.std.proofs.Common.{◌≡◌, ℕ, Option, Some, None, inl, refl, sym, ap, ◌∙◌, subst, arith}
+use Rattle.std.proofs.Common.{◌≡◌, ◌<◌, ℕ, Option, Some, None, inl, refl, sym, ap, ◌∙◌, subst, arith}
 use Rattle.std.specs.Prelude.{IsSome, option_and_then}
 use Rattle.std.specs.FinMap as finite
 use mathlib.Core.List.{IsPrefix}
@@ -10,14 +10,15 @@ use Rattle.group_history.specs.declared.refs.Ref.{Ref}
 use Rattle.group_history.specs.Map.{Bytes, Entries}
 use Rattle.group_history.specs.Refs.{stamp_of}
 use Rattle.group_history.specs.Spelling.{Contents}
-use Rattle.group_history.proofs.Lists.{prefix_trans}
+use Rattle.group_history.proofs.Lists.{prefix_self, prefix_trans}
 use Rattle.map_chunks.proofs.JoinLemmas.{some_is}
 use Rattle.map_chunks.proofs.KeptLemmas.{kept-from_none, kept-same}
 use Rattle.map_chunks.proofs.TreeLemmas.{map_at-rows, value_of_map}
 use Rattle.map_chunks.specs.Shown.{chunk_rows, map_of_rows, shown, Seen}
 use Rattle.map_nodes.proofs.LevelLemmas.{changed_as}
 use Rattle.map_nodes.proofs.PutLevels.{put_in_as, put_same as as_before}
-use Rattle.map_nodes.specs.Levels.{placed_levels, seen_levels, IsRenewed, PutLater}
+use Rattle.map_nodes.specs.Levels.{placed_levels, seen_levels, IsRenewed, PutLater, RenewedLater}
+use Rattle.map_tree.proofs.LevelCounts.{put_few, replaced_few}
 use Rattle.map_nodes.specs.Updating.{IsPutIn, IsPutOn, IsPutOr, IsUpdated}
 use Rattle.map_nodes.specs.declared.roots.Updated.{Updated}
 use Rattle.map_tree.specs.Puts.{settled, ArePutBeside, IsPut, IsUpdate}
@@ -42,19 +43,20 @@ own_put old new places t n o m key value e h p =
     subst (λ (w : Tree). IsPut old new places w (rooted (Own o)) m key value) (sym (ap rooted e)) (
     let h' : option_and_then map_of_rows (shown old n.pieces) ≡ Some m = ap (root_map old) (sym e) ∙ h in
     let v = value_of_map (shown old n.pieces) m key h' in
+    let levels : (d : ℕ) → Some n.depth ≡ Some d → PutLater d o.depth new (seen_levels n) (seen_levels o) =
+    λ d g. subst (λ w. PutLater w o.depth new (seen_levels n) (seen_levels o)) (some_is g) p.levels in
+    let kept : (d : ℕ) → Some n.depth ≡ Some d → IsSome (finite.get m key)
+    → RenewedLater new d (seen_levels n) (seen_levels o) =
+    λ d g f. subst (λ w. RenewedLater new w (seen_levels n) (seen_levels o)) (some_is g)
+    (p.kept (subst IsSome (sym v) f)) in
     record {
       map = put_map (shown old n.pieces) (shown new o.pieces) m key value h' p.shown_is;
-      few = λ d g. let x = some_is g in let y = p.few in omega arith;
-      replaced = λ d g f. let x = some_is g in let y = p.replaced (subst IsSome (sym v) f) in omega arith;
-      levels = λ d g. (
-        o.depth,
-        refl,
-        subst (λ w. PutLater w o.depth new (seen_levels n) (seen_levels o)) (some_is g) p.levels,
-      );
-      kept = λ f. p.kept (subst IsSome (sym v) f);
+      few = λ d g. put_few new (rooted (Own n)) (rooted (Own o)) d o.depth (levels d g);
+      replaced = λ d g f. replaced_few new (rooted (Own n)) (rooted (Own o)) d (kept d g f);
+      levels = λ d g. (o.depth, refl, levels d g);
+      kept = kept;
       others = λ other. p.others (λ f. other (sym v ∙ f));
-      deep = λ d g. let x = some_is g in let y = p.deep.0 in let z = p.deep.1 in
-          (o.depth, refl, omega arith, omega arith);
+      deep = λ d g. let r = levels d g new (prefix_self new) in (o.depth, refl, r.0, r.1);
       wide = p.wide;
       places_are = p.places_are;
       same = λ f. ap (λ (w : Seen). rooted (Own w)) (p.same (v ∙ f));
@@ -87,7 +89,7 @@ tree_put old new places t m key value g h f = record {
     root_depth_kept old new t.root d g x,
     as_before new d d (tree_levels t) (tree_levels t) refl (λ later pre level. inl refl),
   );
-  kept = λ z later pre level. inl refl;
+  kept = λ d x z later pre level. inl refl;
   others = λ other. absurd (other f);
   deep = λ d x. (d, root_depth_kept old new t.root d g x, omega arith, omega arith);
   wide = wide_root_grown old new t.root m g h;
@@ -111,25 +113,27 @@ placed_put old new places t at (Some n) m key value g e h p =
     let v = value_of_map (chunk_rows old k) m key h' in
     let deep : (d : ℕ) → root_depth old t.root ≡ Some d → depth ≡ d =
     λ d x. some_is (sym p.1 ∙ ap (root_depth old) (sym e) ∙ x) in
+    let levels : (d : ℕ) → root_depth old t.root ≡ Some d → PutLater d n.depth new (tree_levels t) (seen_levels n) =
+    λ d x later pre. put_in_as d n.depth (placed_levels later d k) (seen_levels n later) (root_levels t.root later)
+    (placed_as old later t.root at d e x (prefix_trans old new later g pre))
+    (subst (λ w. PutLater w n.depth new (λ (z : Contents). placed_levels z w k) (seen_levels n)) (deep d x) q.levels
+    later pre) in
+    let kept : (d : ℕ) → root_depth old t.root ≡ Some d → IsSome (finite.get m key)
+    → RenewedLater new d (tree_levels t) (seen_levels n) =
+    λ d x f later pre level. changed_as (level < d) IsRenewed (placed_levels later d k level)
+    (seen_levels n later level)
+    (root_levels t.root later level) (seen_levels n later level)
+    (placed_as old later t.root at d e x (prefix_trans old new later g pre) level)
+    refl (subst (λ w. RenewedLater new w (λ (z : Contents). placed_levels z w k) (seen_levels n)) (deep d x)
+    (q.kept (subst IsSome (sym v) f)) later pre level) in
     record {
       map = put_map (chunk_rows old k) (shown new n.pieces) m key value h' q.shown_is;
-      few = λ d x. let y = deep d x in let z = q.few in omega arith;
-      replaced = λ d x f. let y = deep d x in let z = q.replaced (subst IsSome (sym v) f) in omega arith;
-      levels = λ d x. (
-        n.depth,
-        refl,
-        λ later pre. put_in_as d n.depth (placed_levels later d k) (seen_levels n later) (root_levels t.root later)
-            (placed_as old later t.root at d e x (prefix_trans old new later g pre))
-            (subst (λ w. PutLater w n.depth new (λ (z : Contents). placed_levels z w k) (seen_levels n)) (deep d x)
-            q.levels later pre),
-      );
-      kept = λ f later pre level. changed_as IsRenewed (placed_levels later depth k level) (seen_levels n later level)
-          (root_levels t.root later level) (seen_levels n later level)
-          (placed_as old later t.root at depth e (ap (root_depth old) e ∙ p.1) (prefix_trans old new later g pre) level)
-          refl (q.kept (subst IsSome (sym v) f) later pre level);
+      few = λ d x. put_few new t (rooted (Own n)) d n.depth (levels d x);
+      replaced = λ d x f. replaced_few new t (rooted (Own n)) d (kept d x f);
+      levels = λ d x. (n.depth, refl, levels d x);
+      kept = kept;
       others = λ other. subst (λ w. ArePutBeside new key value w (Own n)) (sym e) tt;
-      deep = λ d x. let y = deep d x in let a = q.deep.0 in let b = q.deep.1 in
-          (n.depth, refl, omega arith, omega arith);
+      deep = λ d x. let r = levels d x new (prefix_self new) in (n.depth, refl, r.0, r.1);
       wide = λ w. q.wide (subst (IsWide old) e w);
       places_are = kept-from_none places (tree_places t) (root_places (Own n)) q.places_are;
       same = λ f. absurd (q.other (v ∙ f));

@@ -25,10 +25,10 @@ ArePutBeside contents key value (Placed at) (Own o) = Unit {0}
 ArePutBeside contents key value (Own n) (Placed to) = ⊥
 ArePutBeside contents key value (Own n) (Own o) = ArePutAmong contents key value n.pieces o.pieces
 
--- A tree that is this map, once a value is put at a key: its map (`map`); how many chunks are new (`few`; `replaced`,
--- where the key is there); on each level the chunks in whose place new ones stand (`levels`; `kept`, where the key is
--- there), and in own chunks the pieces that are the same (`others`); how deep it is (`deep`), whether its root is wide
--- (`wide`), which placed chunks it names (`places_are`); and that nothing is new where the value is there already
+-- A tree that is this map, once a value is put at a key: its map (`map`); on each level the chunks in whose place new
+-- ones stand (`levels`; `kept`, where the key is there), and what follows from that: how many are new (`few`;
+-- `replaced`), and how deep it is (`deep`); in own chunks the pieces that are the same (`others`); whether its root is
+-- wide (`wide`), which placed chunks it names (`places_are`); and that nothing is new where the value is there already
 -- (`same`).
 pub record IsPut (old new : Contents) (places : Ref → Type 0) (t u : Tree) (m : Entries) (key value : Bytes)
     : Type 0 where
@@ -37,7 +37,8 @@ pub record IsPut (old new : Contents) (places : Ref → Type 0) (t u : Tree) (m 
   pub replaced : (d : ℕ) → tree_depth old t ≡ Some d → IsSome (finite.get m key) → tree_fresh u ≤ tree_fresh t + d
   pub levels : (d : ℕ) → tree_depth old t ≡ Some d
       → (e : ℕ) × (tree_depth new u ≡ Some e) × PutLater d e new (tree_levels t) (tree_levels u)
-  pub kept : IsSome (finite.get m key) → RenewedLater new (tree_levels t) (tree_levels u)
+  pub kept : (d : ℕ) → tree_depth old t ≡ Some d → IsSome (finite.get m key)
+      → RenewedLater new d (tree_levels t) (tree_levels u)
   pub others : (finite.get m key ≡ Some value → ⊥) → ArePutBeside new key value t.root u.root
   pub deep : (d : ℕ) → tree_depth old t ≡ Some d → (e : ℕ) × (tree_depth new u ≡ Some e) × (d ≤ e) × (e ≤ d + 1)
   pub wide : HasWideRoot old t → HasWideRoot new u

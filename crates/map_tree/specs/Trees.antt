@@ -6,7 +6,7 @@ use Rattle.group_history.specs.Refs.{stamp_of}
 use Rattle.group_history.specs.Spelling.{Contents, Segment, segment_at, map_at}
 use Rattle.map_chunks.specs.Places.{places_of}
 use Rattle.map_chunks.specs.Seeking.{chunk_depth}
-use Rattle.map_chunks.specs.Shown.{shown, map_of_rows}
+use Rattle.map_chunks.specs.Shown.{fresh, shown, map_of_rows}
 use Rattle.map_chunks.specs.Wide.{IsWideAt, IsWideChunk}
 use Rattle.map_nodes.specs.Levels.{Levels, placed_levels, seen_levels}
 use Rattle.map_tree.specs.declared.tree.Root.{Root}
@@ -48,7 +48,7 @@ tree_levels t = root_levels t.root
 
 abbrev pub root_fresh : Root → ℕ
 root_fresh (Placed at) = 0
-root_fresh (Own n) = n.fresh
+root_fresh (Own n) = fresh n
 
 -- how many chunks of the tree aren't placed
 abbrev pub tree_fresh : Tree → ℕ

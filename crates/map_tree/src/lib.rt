@@ -10,10 +10,15 @@
 //! or one more; or it got a 17th entry, and the first 8 and the last 9 stand in its place. In chunks of the tree's own
 //! all pieces are the same but one at most, be it a row or a placed chunk with all that is below it: what stands in its
 //! place shows its rows and the value (`others`). So the chunks on the way to the key are made new, and no other. A
-//! value replaced changes no key (`kept`), and a value that is there already makes nothing new (`same`). A key removed
-//! makes at most d chunks new. A root that would keep one child gives way to it (`wide`). `freeze` appends the own
-//! chunks to a `Draft` as they are, children before parents; a placed child keeps its reference (`named`), and of new
-//! references nothing is said until they are placed.
+//! value replaced changes no key (`kept`), and a value that is there already makes nothing new (`same`).
+//!
+//! A key removed changes one chunk at most on each level, too (`levels` of `del`): a new one stands in its place, with
+//! the keys that it had, one fewer, or another one between two children; or it had one row, or one child, and is gone.
+//! So at most d chunks are new (`few`). A root that would keep one child gives way to it (`wide`), and the levels above
+//! go; no chunk is made new for that.
+//!
+//! `freeze` appends the own chunks to a `Draft` as they are, children before parents; a placed child keeps its
+//! reference (`named`), and of new references nothing is said until they are placed.
 //!
 //! A put and an `update` go down once. Each placed chunk on the way is held while the way goes on below it, and new
 //! ones are made on the way up, only where the value changes; the tree's own chunks are changed in place. What a split

@@ -1,6 +1,6 @@
 -- A change whose mutators the caller runs: how its call ends.
 use Rattle.std.proofs.Common.{◌≡◌, ◌≤◌, inl, inr, ℕ, ◌+◌, ◌∷◌, List, [], Option, Some, None, Result, Ok, Err, refl, sym}
-use Rattle.std.proofs.Common.{ap, subst, ◌∙◌, arith, reverse}
+use Rattle.std.proofs.Common.{ap, subst, ◌∙◌, arith, reverse, Bool, ◌++◌, append_assoc}
 use Rattle.std.specs.Prelude.{IfErr}
 use Rattle.group_history.specs.declared.changes.Change.{Change}
 use Rattle.group_history.specs.declared.changes.Change.TheVariants.{Mutated, Pulled, Closed}
@@ -23,7 +23,7 @@ use Rattle.group_history.specs.Mutating.{mutate_reply}
 use Rattle.group_history.specs.Pulling.{end_reply}
 use Rattle.group_history.specs.Record.{after}
 use Rattle.group_history.specs.Spelling.{Contents}
-use Rattle.group_history.specs.State.{State}
+use Rattle.group_history.specs.State.{State, state}
 use Rattle.head_word.specs.Books.{IsOpened, drawn, record_of}
 use Rattle.head_word.specs.Marks.{Known}
 use Rattle.pull_patch.specs.Grammar.{answer_to}
@@ -43,14 +43,15 @@ use Rattle.group_steps.specs.Missing.{map_ok}
 use Rattle.group_steps.specs.Proposing.{asked_reply, change_asked}
 use Rattle.group_steps.proofs.Making.{wanting}
 use Rattle.transactions.specs.Maps.{map_or}
-use Rattle.asked_steps.specs.Runs.{IsAskedRun, run_start}
-use Rattle.asked_steps.specs.Runs.{IsFirstRun, with_more}
-use Rattle.asked_steps.specs.Tries.{Follows as FollowsRun, StartsAnew}
-use Rattle.asked_steps.specs.Tries.{IsEnded, IsFound, IsProgress, IsSince, TellsProgress}
-use Rattle.asked_steps.specs.declared.trying.Attempt.{Attempt}
-use Rattle.asked_steps.specs.declared.runs.AskedRun.{AskedRun}
-use Rattle.asked_steps.specs.declared.trying.Progress.{Progress}
-use Rattle.asked_steps.specs.declared.trying.Progress.TheVariants as progress
+use Rattle.group_steps.specs.Runs.{IsAskedRun, run_start}
+use Rattle.group_steps.specs.Runs.{IsFirstRun, left_of, with_more}
+use Rattle.group_history.proofs.Replays.{replayed-append}
+use Rattle.group_steps.specs.Tries.{Follows as FollowsRun, StartsAnew}
+use Rattle.group_steps.specs.Tries.{IsEnded, IsFound, IsProgress, IsSince, TellsProgress}
+use Rattle.group_steps.specs.declared.trying.Attempt.{Attempt}
+use Rattle.group_steps.specs.declared.runs.AskedRun.{AskedRun}
+use Rattle.group_steps.specs.declared.trying.Progress.{Progress}
+use Rattle.group_steps.specs.declared.trying.Progress.TheVariants as progress
 use Rattle.rebase.specs.Asked.{Tells}
 use Rattle.rebase.specs.Asking.{change_wanted, end_bytes_reply}
 use Rattle.rebase.specs.Calls.{ended_in}
@@ -150,21 +151,16 @@ ends_call means reused tries before new c cs made reply is found last acts e =
 
 -- THE RUNS
 
--- a call that begins has lost no try
-pub since_self : (reused : Type 0) (c : Change) (seat : Seated) → IsSince reused seat 0 c seat
-since_self reused c seat = record {
-  same = seat-self seat;
-  own = refl;
-  others = omega arith;
-  gave = λ r. gives_none (MayTake seat.table.sizes (Some c) seat.mark seat.mark) seat;
-}
+-- mutations behind mutations
+more_more : (s : State) (xs ys : List Mutation) → with_more (with_more s xs) ys ≡ with_more s (xs ++ ys)
+more_more s xs ys = ap (λ (w : List Mutation). state s.pulled s.cookie s.confirmed w s.closed) (append_assoc s.pending xs ys)
 
 judged_at : (means : Meanings) (cs : Contents) (s : State) (last : ℕ) (c : Change) (run : AskedRun) (u : UnderWay)
     → u.mutation ≡ run.mutation → u.behind ≡ reverse run.behind.items → u.start ≡ run_start cs run
     → IsAskedRun means cs s last c run → IsJudgedAt means s last c u
 judged_at means cs s last (Mutated x) run u one others start is =
     let j = is.judged in
-    (j.2.opened, j.2.own, one ∙ j.0, others ∙ ap reverse j.1, start ∙ ap map_or j.3.1)
+    (j.2.opened, j.2.own, one ∙ j.0, others ∙ ap reverse j.1, start ∙ j.4)
 judged_at means cs s last (Pulled t r) run u one others start is = is.judged.0
 judged_at means cs s last Closed run u one others start is = is.judged
 
@@ -174,17 +170,19 @@ pub asks_for : (means : Meanings) (cs : Contents) (s : State) (last : ℕ) (c : 
     → IsAskedRun means cs s last c run → AsksFor means s last c u
 asks_for means cs s last c run u one others start is = record {
   judged = judged_at means cs s last c run u one others start is;
-  between = is.leads.state;
-  start = start ∙ ap map_or is.leads.tip.1;
-  whole = ap (λ (y : Mutation). with_more is.leads.state (y ∷ u.behind)) one
-      ∙ ap (λ (ys : List Mutation). with_more is.leads.state (run.mutation ∷ ys)) others ∙ is.leads.whole;
+  between = with_more is.leads.basis run.ran.items;
+  start = start ∙ is.leads.mapped
+      ∙ sym (replayed-append means is.leads.basis.pulled is.leads.basis.pending run.ran.items);
+  whole = ap (λ (y : Mutation). with_more (with_more is.leads.basis run.ran.items) (y ∷ u.behind)) one
+      ∙ ap (λ (ys : List Mutation). with_more (with_more is.leads.basis run.ran.items) (run.mutation ∷ ys)) others
+      ∙ more_more is.leads.basis run.ran.items (left_of run) ∙ is.leads.whole;
 }
 
 -- where a run is asked for, or the call ended, the seat has no taken slot
-pub progress_none : (means : Meanings) (reused : Type 0) (group : GroupId) (new : Seated) (tries last : ℕ) (c : Change)
-    {M : Type 0} (p : Progress M) → IsProgress means reused group new tries last c p → reused → new.view.taken ≡ []
-progress_none means reused group new tries last c (progress.Run a) is r = is.0.none r
-progress_none means reused group new tries last c (progress.Ended made) is r = (is.0 r).1
+pub progress_none : (has : Bytes → Bool) (means : Meanings) (reused : Type 0) (group : GroupId) (new : Seated) (tries last : ℕ) (c : Change)
+    {M : Type 0} (p : Progress M) → IsProgress has means reused group new tries last c p → reused → new.view.taken ≡ []
+progress_none has means reused group new tries last c (progress.Run a) is r = is.0.none r
+progress_none has means reused group new tries last c (progress.Ended made) is r = (is.0 r).1
 
 -- CALLS THAT ARE REFUSED BEFORE THEY DID ANYTHING
 
@@ -285,13 +283,13 @@ unsupported_ends means reused tries before new k body kind r reply read is told 
 -- THE STEPS OF A CALL
 
 -- a run is asked for
-pub go_run : (means : Meanings) (reused : Type 0) (tries : ℕ) (before client : ClientState) (c : Change) {M : Type 0}
+pub go_run : (has : Bytes → Bool) (means : Meanings) (reused : Type 0) (tries : ℕ) (before client : ClientState) (c : Change) {M : Type 0}
     (p : Progress M) (a : Attempt M) → p ≡ progress.Run a → IsSameClient before client → client.last ≡ before.last
-    → IsProgress means reused client.group.group client.seat tries client.last c p
+    → IsProgress has means reused client.group.group client.seat tries client.last c p
     → TellsProgress means reused tries before.seat client.seat before.last c p
     → IsAsked means reused tries before c (under_way client c a tries)
-go_run means reused tries before client c {M} p a is same last stands tells =
-    let s = subst (λ (w : Progress M). IsProgress means reused client.group.group client.seat tries client.last c w) is
+go_run has means reused tries before client c {M} p a is same last stands tells =
+    let s = subst (λ (w : Progress M). IsProgress has means reused client.group.group client.seat tries client.last c w) is
     stands in
     record {
       began = record {
@@ -309,24 +307,24 @@ go_run means reused tries before client c {M} p a is same last stands tells =
     }
 
 -- and nothing is written yet
-pub go_fresh : (means : Meanings) (reused : Type 0) (tries : ℕ) (client : ClientState) (c : Change) {M : Type 0}
+pub go_fresh : (has : Bytes → Bool) (means : Meanings) (reused : Type 0) (tries : ℕ) (client : ClientState) (c : Change) {M : Type 0}
     (p : Progress M) (a : Attempt M) → p ≡ progress.Run a
-    → IsProgress means reused client.group.group client.seat tries client.last c p → IsUnwritten (under_way client c a tries)
-go_fresh means reused tries client c {M} p a is stands =
-    let s = subst (λ (w : Progress M). IsProgress means reused client.group.group client.seat tries client.last c w) is
+    → IsProgress has means reused client.group.group client.seat tries client.last c p → IsUnwritten has (under_way client c a tries)
+go_fresh has means reused tries client c {M} p a is stands =
+    let s = subst (λ (w : Progress M). IsProgress has means reused client.group.group client.seat tries client.last c w) is
     stands in s.2
 
 -- the call ends
-pub go_end : (means : Meanings) (reused : Type 0) (tries : ℕ) (before client new : ClientState) (c : Change) {M : Type 0}
+pub go_end : (has : Bytes → Bool) (means : Meanings) (reused : Type 0) (tries : ℕ) (before client new : ClientState) (c : Change) {M : Type 0}
     (p : Progress M) (made : Result (Option Ref) Refusal) (reply : Result Replied Refusal) → p ≡ progress.Ended made
     → IsSameClient before client → client.last ≡ before.last → IsSameSeat before.seat client.seat
-    → IsProgress means reused client.group.group client.seat tries client.last c p
+    → IsProgress has means reused client.group.group client.seat tries client.last c p
     → TellsProgress means reused tries before.seat client.seat before.last c p
     → reply ≡ reply_made client.last c made
     → new.last ≡ last_called client.last c reply → new.seat ≡ client.seat → IsSameClient client new
     → EndsCall means reused tries before new c reply
-go_end means reused tries before client new c {M} p made reply is same last seat stands tells told called here kept =
-    let s = subst (λ (w : Progress M). IsProgress means reused client.group.group client.seat tries client.last c w) is
+go_end has means reused tries before client new c {M} p made reply is same last seat stands tells told called here kept =
+    let s = subst (λ (w : Progress M). IsProgress has means reused client.group.group client.seat tries client.last c w) is
     stands in
     let t = subst (λ (w : Progress M). TellsProgress means reused tries before.seat client.seat before.last c w) is
     tells in
@@ -431,48 +429,50 @@ pub tells_none : {M S T : Type 0} (a : Asked M S T) (P : UnderWay → Type 0) (E
 tells_none (asked.Run u) P E h = absurd h
 tells_none (asked.Ended client reply) P E h = tt
 
-first_at : (s : State) (c : Change) (cs : Contents) {M : Type 0} (client : ClientState) (a : Attempt M) (tries : ℕ)
-    → IsFirstRun s c a.run → IsFirstAt s c (under_way client c a tries)
-first_at s (Mutated x) cs client a tries h = tt
-first_at s (Pulled t r) cs client a tries h = h
-first_at s Closed cs client a tries h = tt
+first_at : (has : Bytes → Bool) (s : State) (c : Change) (cs : Contents) {M : Type 0} (client : ClientState) (a : Attempt M) (tries : ℕ)
+    → IsFirstRun has s c a.run → IsFirstAt has s c (under_way client c a tries)
+first_at has s (Mutated x) cs client a tries h = tt
+first_at has s (Pulled t r) cs client a tries h = h
+first_at has s Closed cs client a tries h = tt
 
 -- the first run of a call
-pub first_shown : (client : ClientState) (c : Change) (tries n : ℕ) {M : Type 0} (p : Progress M) {X S T : Type 0}
-    (asking : Asked X S T) → Tells asking (IsShown client c tries p) (λ client reply. Unit {0}) → StartsAnew n c p
-    → Tells asking IsFirst (λ client reply. Unit {0})
-first_shown client c tries n (progress.Run a) (asked.Run u) h start =
-    subst (λ (w : UnderWay). IsFirst w) (sym h)
-    (first_at (after (record_of a.arrival.seen.log)) c [] client a tries start.1)
-first_shown client c tries n (progress.Ended made) (asked.Run u) h start = absurd h
-first_shown client c tries n (progress.Run a) (asked.Ended d reply) h start = tt
-first_shown client c tries n (progress.Ended made) (asked.Ended d reply) h start = tt
+pub first_shown : (has : Bytes → Bool) (client : ClientState) (c : Change) (tries n : ℕ) {M : Type 0} (p : Progress M) {X S T : Type 0}
+    (asking : Asked X S T) → Tells asking (IsShown client c tries p) (λ client reply. Unit {0}) → StartsAnew has n c p
+    → Tells asking (IsFirst has) (λ client reply. Unit {0})
+first_shown has client c tries n (progress.Run a) (asked.Run u) h start =
+    subst (λ (w : UnderWay). IsFirst has w) (sym h)
+    (first_at has (after (record_of a.arrival.seen.log)) c [] client a tries start.1)
+first_shown has client c tries n (progress.Ended made) (asked.Run u) h start = absurd h
+first_shown has client c tries n (progress.Run a) (asked.Ended d reply) h start = tt
+first_shown has client c tries n (progress.Ended made) (asked.Ended d reply) h start = tt
 
 -- the run behind another
-pub next_run : (old client : ClientState) (c : Change) (tries : ℕ) {M : Type 0} (was a : Attempt M) (ran : Ran)
-    → FollowsRun old.seat client.seat was ran c (progress.Run a)
-    → Follows (under_way old c was tries) ran (under_way client c a tries)
-next_run old client c tries was a ran (inl f) =
+pub next_run : (has : Bytes → Bool) (means : Meanings) (old client : ClientState) (c : Change) (tries : ℕ) {M : Type 0} (was a : Attempt M) (ran : Ran)
+    → FollowsRun has means old.seat client.seat was ran c (progress.Run a)
+    → Follows has means (under_way old c was tries) ran (under_way client c a tries)
+next_run has means old client c tries was a ran (inl f) =
     let cs : Seated → Contents = λ w. drawn w.mark.log in
     inl (record {
       lost = f.1;
       seen = ap (λ w. w.seen.log) f.2;
-      order = f.3.0;
-      start = ap (λ (w : Seated). run_start (cs w) a.run) f.0 ∙ f.3.1;
+      own = f.3.own;
+      had = f.3.had;
+      order = f.3.order;
+      start = ap (λ (w : Seated). run_start (cs w) a.run) f.0 ∙ f.3.start;
     })
-next_run old client c tries was a ran (inr g) =
-    inr (omega (arith, g.0), first_at (after (record_of a.arrival.seen.log)) c [] client a tries g.1)
+next_run has means old client c tries was a ran (inr g) =
+    inr (omega (arith, g.0), first_at has (after (record_of a.arrival.seen.log)) c [] client a tries g.1)
 
-pub next_shown : (old client : ClientState) (c : Change) (tries : ℕ) {M : Type 0} (was : Attempt M) (ran : Ran)
+pub next_shown : (has : Bytes → Bool) (means : Meanings) (old client : ClientState) (c : Change) (tries : ℕ) {M : Type 0} (was : Attempt M) (ran : Ran)
     (p : Progress M) {X S T : Type 0} (asking : Asked X S T)
     → Tells asking (IsShown client c tries p) (λ client reply. Unit {0})
-    → FollowsRun old.seat client.seat was ran c p
-    → Tells asking (Follows (under_way old c was tries) ran) (λ client reply. Unit {0})
-next_shown old client c tries was ran (progress.Run a) (asked.Run u) h f =
-    subst (λ (w : UnderWay). Follows (under_way old c was tries) ran w) (sym h) (next_run old client c tries was a ran f)
-next_shown old client c tries was ran (progress.Ended made) (asked.Run u) h f = absurd h
-next_shown old client c tries was ran (progress.Run a) (asked.Ended d reply) h f = tt
-next_shown old client c tries was ran (progress.Ended made) (asked.Ended d reply) h f = tt
+    → FollowsRun has means old.seat client.seat was ran c p
+    → Tells asking (Follows has means (under_way old c was tries) ran) (λ client reply. Unit {0})
+next_shown has means old client c tries was ran (progress.Run a) (asked.Run u) h f =
+    subst (λ (w : UnderWay). Follows has means (under_way old c was tries) ran w) (sym h) (next_run has means old client c tries was a ran f)
+next_shown has means old client c tries was ran (progress.Ended made) (asked.Run u) h f = absurd h
+next_shown has means old client c tries was ran (progress.Run a) (asked.Ended d reply) h f = tt
+next_shown has means old client c tries was ran (progress.Ended made) (asked.Ended d reply) h f = tt
 
 -- what is shown where a run is asked for
 pub shown_run : (client self : ClientState) (c : Change) (tries : ℕ) {M : Type 0} (p : Progress M) (a : Attempt M)

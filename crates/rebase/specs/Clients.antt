@@ -95,8 +95,8 @@ pub record Looks (reused : Type 0) (old new : ClientState) : Type 0 where
 abbrev pub Stays : Type 0 → ClientState → ClientState → Type 0
 Stays reused old new = Looks reused old new × (new.last ≡ old.last)
 
--- What a reader has of the client that opened it: it looked, and its pin is held. That pin was stored before the look,
--- after so many lost tries at the most as the call could make, and no other one since.
+-- What a reader has of the client that opened it: it looked, and its pin is held. That pin was stored in the call,
+-- after fewer lost tries than the call could make, and no other one since.
 pub record Reads (reused : Type 0) (tries : ℕ) (old new : ClientState) : Type 0 where
   pub client : IsSameClient old new
   pub looked : HasLooked reused old.seat new.seat

@@ -1,5 +1,6 @@
 -- A change whose mutators the caller runs: what is shown of it while it is under way, and how its call ends.
-use Rattle.std.specs.Prelude.{ℕ, ◌≡◌, ◌⊎◌, ◌<◌, ◌∷◌, false, List, [], max, Option, Some, None, Result, IfErr}
+use Rattle.std.specs.Prelude.{ℕ, ◌≡◌, ◌⊎◌, ◌<◌, ◌∷◌, ◌++◌, Bool, true, false, List, [], max, Option, Some, None, Result, IfErr}
+use Rattle.std.specs.List.{All}
 use Rattle.group_history.specs.declared.changes.Change.{Change}
 use Rattle.group_history.specs.declared.changes.Change.TheVariants.{Mutated, Pulled, Closed}
 use Rattle.group_history.specs.declared.mutations.Mutation.{Mutation}
@@ -12,7 +13,7 @@ use Rattle.group_history.specs.Meaning.{Meanings}
 use Rattle.group_history.specs.Mutating.{mutate_reply}
 use Rattle.group_history.specs.Pulling.{after_pull, end_reply}
 use Rattle.group_history.specs.Record.{IsAccepted, after, after_change}
-use Rattle.group_history.specs.State.{State, last_id, view_of}
+use Rattle.group_history.specs.State.{State, last_id, replayed, view_of}
 use Rattle.head_word.specs.declared.entry.Entry.{Entry}
 use Rattle.answered.specs.Answered.{IsLinearized}
 use Rattle.head_word.specs.Books.{record_of}
@@ -22,8 +23,8 @@ use Rattle.commit_graph.specs.Seats.{HasLooked}
 use Rattle.group_steps.specs.Causes.{HasCause}
 use Rattle.group_steps.specs.Leaving.{Frees, spared}
 use Rattle.group_steps.specs.Missing.{map_ok}
-use Rattle.asked_steps.specs.Runs.{map_by, with_more}
-use Rattle.asked_steps.specs.Tries.{IsArrivedSince}
+use Rattle.group_steps.specs.Runs.{map_by, with_more}
+use Rattle.group_steps.specs.Tries.{IsArrivedSince}
 use Rattle.rebase.specs.Asking.{change_wanted, end_bytes_reply}
 use Rattle.rebase.specs.Calls.{ended_in, id_in, last_after}
 use Rattle.rebase.specs.Clients.{Acts, ClientState, IsSameClient}
@@ -65,30 +66,38 @@ pub record AsksFor (means : Meanings) (s : State) (last : ℕ) (change : Change)
   pub start : asking.start ≡ view_of means between
   pub whole : with_more between (asking.mutation ∷ asking.behind) ≡ after_change s change
 
--- The next run of the same try, where the one before ended so: of the next mutation behind it, from the map that it left.
-pub record IsNextRun (was : UnderWay) (ran : Ran) (now : UnderWay) : Type 0 where
+-- mutations whose mutators the group has: it runs these itself
+abbrev pub AreOwn : (Bytes → Bool) → List Mutation → Type 0
+AreOwn has xs = All (λ (x : Mutation). has x.name ≡ true) xs
+
+-- The next run of the same try, where the one before ended so: of the next mutation behind it that the group doesn't run
+-- itself, from the map that the one before and the group's runs left.
+pub record IsNextRun (has : Bytes → Bool) (means : Meanings) (was : UnderWay) (ran : Ran) (now : UnderWay) : Type 0 where
   pub lost : now.lost ≡ was.lost
   pub seen : now.seen ≡ was.seen
-  pub order : now.mutation ∷ now.behind ≡ was.behind
-  pub start : now.start ≡ map_by ran was.map was.start
+  pub own : List Mutation
+  pub had : AreOwn has own
+  pub order : own ++ now.mutation ∷ now.behind ≡ was.behind
+  pub start : now.start ≡ replayed means (map_by ran was.map was.start) own
 
--- the first run of a change at this state: at the end of a pull, of all that stays pending
-abbrev pub IsFirstAt : State → Change → UnderWay → Type 0
-IsFirstAt s (Mutated x) asking = Unit {0}
-IsFirstAt s (Pulled ticket r) asking = asking.mutation ∷ asking.behind ≡ (after_pull s r).pending
-IsFirstAt s Closed asking = Unit {0}
+-- the first run of a change at this state: at the end of a pull, of all that stays pending but what the group runs before
+abbrev pub IsFirstAt : (Bytes → Bool) → State → Change → UnderWay → Type 0
+IsFirstAt has s (Mutated x) asking = Unit {0}
+IsFirstAt has s (Pulled ticket r) asking = (own : List Mutation) × AreOwn has own
+    × (own ++ asking.mutation ∷ asking.behind ≡ (after_pull s r).pending)
+IsFirstAt has s Closed asking = Unit {0}
 
-abbrev pub IsFirst : UnderWay → Type 0
-IsFirst asking = IsFirstAt (after (record_of asking.seen)) asking.change asking
+abbrev pub IsFirst : (Bytes → Bool) → UnderWay → Type 0
+IsFirst has asking = IsFirstAt has (after (record_of asking.seen)) asking.change asking
 
 -- What is asked for after a run that ended so: the next run of the same try; or the try was lost, and a later one asks for
 -- its first run.
-abbrev pub Follows : UnderWay → Ran → UnderWay → Type 0
-Follows was ran now = IsNextRun was ran now ⊎ ((was.lost < now.lost) × IsFirst now)
+abbrev pub Follows : (Bytes → Bool) → Meanings → UnderWay → Ran → UnderWay → Type 0
+Follows has means was ran now = IsNextRun has means was ran now ⊎ ((was.lost < now.lost) × IsFirst has now)
 
--- nothing is written yet: the map is the one where the run begins
-abbrev pub IsUnwritten : UnderWay → Type 0
-IsUnwritten asking = asking.map ≡ asking.start
+-- Nothing is written yet: the map is the one where the run begins. And the group has no mutator of this name.
+abbrev pub IsUnwritten : (Bytes → Bool) → UnderWay → Type 0
+IsUnwritten has asking = (asking.map ≡ asking.start) × (has asking.mutation.name ≡ false)
 
 -- A run is asked for by the change, with so many tries, of a call that began with this client.
 pub record IsAsked (means : Meanings) (reused : Type 0) (tries : ℕ) (before : ClientState) (change : Change)

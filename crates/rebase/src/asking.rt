@@ -22,7 +22,7 @@ ghost use Rattle.commit_graph.specs.LastIds.{last_at};
 ghost use Rattle.commit_graph.specs.Seats.{IsSameSeat};
 ghost use Rattle.pull_patch.specs.Grammar.{answer_to};
 ghost use Rattle.answered.specs.Answered.{own_moves};
-ghost use Rattle.asked_steps.specs.Tries.{IsFound, IsProgress, TellsProgress};
+ghost use Rattle.group_steps.specs.Tries.{IsFound, IsProgress, TellsProgress};
 ghost use Rattle.group_steps.specs.Leaving.{Frees};
 ghost use Rattle.group_steps.specs.Missing.{IsMissedOrDry, map_ok};
 ghost use Rattle.group_steps.specs.Places.{place};
@@ -37,13 +37,13 @@ use crate::calls::Reply;
 use crate::changes::ended_as;
 use crate::client::Client;
 use crate::tickets::Ticket;
-use asked_steps::{Attempt, Progress, ask_from, del, get, put, ran_from, scan};
 use chunk_slots::{Arena, Slots, Store};
 use commit_graph::LastId;
 use group_history::{
     Change, Json, Means, Mutation, PullOk, Ran, Ref, Refusal, Response, Scan, Text, VersionKind,
 };
-use group_steps::{At, Request};
+use group_steps::{At, Attempt, Progress, ask_from, del, get, put, ran_from, scan};
+use replays::Runs;
 use std::marker::Model;
 
 /// A change that asks for a run of a mutator. It has its client until it ends, and the client's seat is pinned. It can't
@@ -64,8 +64,8 @@ impl<M: Means, S: Slots<M>> Model for Asking<M, S> {
     ghost use Rattle.head_word.specs.Books.{drawn};
     ghost use Rattle.group_steps.specs.Proposing.{AsksNext};
     ghost use Rattle.group_steps.specs.Rooting.{entries_coded};
-    ghost use Rattle.asked_steps.specs.Runs.{run_map, run_start};
-    ghost use Rattle.asked_steps.specs.Tries.{IsAttempt};
+    ghost use Rattle.group_steps.specs.Runs.{run_map, run_start};
+    ghost use Rattle.group_steps.specs.Tries.{IsAttempt};
     ghost use Rattle.rebase.specs.Running.{UnderWay};
 
     ghost Value = { UnderWay };
@@ -97,19 +97,8 @@ pub enum Asked<M: Means, S: Slots<M>> {
     Ended(Client<M, S>, Result<Reply, Refusal>),
 }
 
-impl<M: Means, S: Store<M>> Client<M, S> {
+impl<M: Runs, S: Store<M>> Client<M, S> {
     ghost use Rattle.rebase.specs.Asked.{Tells};
-
-    // Where the client's last id was found.
-    fn before(&self) -> LastId
-        ensures id { result.id ≡ self.now.last }
-        ensures at { last_at (drawn self.now.seat.mark.log) (stamp_of result.at) self.now.id ≡ Some self.now.last }
-    {
-        LastId {
-            at: self.found,
-            id: self.last,
-        }
-    }
 
     // What is replied where the change came to this.
     fn end_change(
@@ -146,7 +135,7 @@ impl<M: Means, S: Store<M>> Client<M, S> {
 
     // The change asks for a run, or the call ends.
     fn go_on(self, change: Change, progress: Progress<M>, tries: u32) -> Asked<M, S>
-        requires progress { IsProgress M.means S.reused self.group.group self.seat tries self.last change progress }
+        requires progress { IsProgress M.has M.means S.reused self.group.group self.seat tries self.last change progress }
         requires asks { AsksNext self.id self.last change }
         ensures told { (before : ClientState) → IsSameClient before self → self.last ≡ before.last
             → IsSameSeat before.seat self.seat
@@ -154,7 +143,7 @@ impl<M: Means, S: Store<M>> Client<M, S> {
             → Tells result (IsAsked M.means S.reused tries before change) (λ client reply.
             EndsCall M.means S.reused tries before client change (map_ok reply_seen reply)) }
         ensures shown { Tells result (IsShown self change tries progress) (λ client reply. Unit {0}) }
-        ensures fresh { Tells result IsUnwritten (λ client reply. Unit {0}) }
+        ensures fresh { Tells result (IsUnwritten M.has) (λ client reply. Unit {0}) }
     {
         let mut client = self;
         let _ = &client.group;
@@ -181,17 +170,24 @@ impl<M: Means, S: Store<M>> Client<M, S> {
         requires next { AsksNext self.id self.last change }
         ensures told { Tells result (IsAsked M.means S.reused tries self change) (λ client reply.
             EndsCall M.means S.reused tries self client change (map_ok reply_seen reply)) }
-        ensures first { Tells result IsFirst (λ client reply. Unit {0}) }
-        ensures fresh { Tells result IsUnwritten (λ client reply. Unit {0}) }
+        ensures first { Tells result (IsFirst M.has) (λ client reply. Unit {0}) }
+        ensures fresh { Tells result (IsUnwritten M.has) (λ client reply. Unit {0}) }
     {
         let mut client = self;
-        let before = client.before();
-        let request = Request {
-            change: &change,
-            before,
+        let mut found = LastId {
+            at: client.found,
+            id: client.last,
         };
         client.pinned = false;
-        let progress = ask_from::<M, S>(&client.group, &mut client.seat, &request, 0, tries);
+        let progress = ask_from::<M, S>(
+            &client.group,
+            &mut client.seat,
+            &change,
+            &mut found,
+            0,
+            tries,
+        );
+        client.found = found.at;
         client.go_on(change, progress, tries)
     }
 
@@ -202,8 +198,8 @@ impl<M: Means, S: Store<M>> Client<M, S> {
             (IsAsked M.means S.reused tries self (Mutated (made self.id (self.last + 1) name.now args.now time)))
             (λ client reply. EndsCall M.means S.reused tries self client
             (Mutated (made self.id (self.last + 1) name.now args.now time)) (map_ok reply_seen reply)) }
-        ensures first { Tells result IsFirst (λ client reply. Unit {0}) }
-        ensures fresh { Tells result IsUnwritten (λ client reply. Unit {0}) }
+        ensures first { Tells result (IsFirst M.has) (λ client reply. Unit {0}) }
+        ensures fresh { Tells result (IsUnwritten M.has) (λ client reply. Unit {0}) }
     {
         match Mutation::new(&self.id, self.last + 1, name, args, time) {
             Ok(mutation) => {
@@ -220,8 +216,8 @@ impl<M: Means, S: Store<M>> Client<M, S> {
         ensures told { Tells result (IsAsked M.means S.reused tries self (Pulled ticket.now.cookie pull))
             (λ client reply. EndsCall M.means S.reused tries self client (Pulled ticket.now.cookie pull)
             (map_ok reply_seen reply)) }
-        ensures first { Tells result IsFirst (λ client reply. Unit {0}) }
-        ensures fresh { Tells result IsUnwritten (λ client reply. Unit {0}) }
+        ensures first { Tells result (IsFirst M.has) (λ client reply. Unit {0}) }
+        ensures fresh { Tells result (IsUnwritten M.has) (λ client reply. Unit {0}) }
     {
         match ticket.cookie.clone() {
             Ok(cookie) => {
@@ -253,8 +249,8 @@ impl<M: Means, S: Store<M>> Client<M, S> {
             × IsAsked M.means S.reused tries self (Pulled ticket.now.cookie r) asking)
             (λ client reply. EndsPull M.means S.reused tries self client ticket.now.cookie body.now
             (map_ok reply_seen reply)) }
-        ensures first { Tells result IsFirst (λ client reply. Unit {0}) }
-        ensures fresh { Tells result IsUnwritten (λ client reply. Unit {0}) }
+        ensures first { Tells result (IsFirst M.has) (λ client reply. Unit {0}) }
+        ensures fresh { Tells result (IsUnwritten M.has) (λ client reply. Unit {0}) }
     {
         match self.response_in(body) {
             Ok(Response::Ok(pull)) => {
@@ -274,13 +270,12 @@ impl<M: Means, S: Store<M>> Client<M, S> {
 }
 
 impl<M: Means, S: Store<M>> Asking<M, S> {
-    ghost use Rattle.rebase.specs.Asked.{Tells};
-
     /// The mutation whose mutator is to be run: by its name, on its arguments, for its reason.
     pub fn mutation(&self) -> &Mutation
         ensures { result.now ≡ self.now.mutation }
     {
-        &self.attempt.run.mutation
+        let run = self.attempt.run.as_run();
+        &run.mutation
     }
 
     // Where the call stands.
@@ -305,7 +300,7 @@ impl<M: Means, S: Store<M>> Asking<M, S> {
         ensures value { IfOk result (λ found. found ≡ finite.get self.now.map key.now) }
         ensures err { IfErr result (IsMissedOrDry S.reused) }
     {
-        get(&self.here(), &self.attempt.run, key)
+        get(&self.here(), self.attempt.run.as_run(), key)
     }
 
     /// The pairs of the run's map that the scan asks for, in the order of their keys. Refused as `get` is.
@@ -313,7 +308,7 @@ impl<M: Means, S: Store<M>> Asking<M, S> {
         ensures rows { IfOk result (λ found. found.items ≡ rows_of rows.now self.now.map) }
         ensures err { IfErr result (IsMissedOrDry S.reused) }
     {
-        scan(&self.here(), &self.attempt.run, rows)
+        scan(&self.here(), self.attempt.run.as_run(), rows)
     }
 
     /// Afterwards the key has the value in the run's map. A refused put leaves the map. Refused as `get` is.
@@ -354,42 +349,6 @@ impl<M: Means, S: Store<M>> Asking<M, S> {
         del(&at, &mut self.attempt.run, key)
     }
 
-    /// Says how the run ended. What was done to its map is what the group's mutator of that name does there, on those
-    /// arguments, for that reason; and where that refuses or there is none, the run ends as that says. Then the next run
-    /// is asked for, or the call ends: as `try_mutate` and `try_end_pull` do. Where a new mutation's run isn't done, the
-    /// call is refused with `NoMutator` or `Refused`; a pending mutation's leaves the map as it was before it.
-    pub fn ran(self, ran: Ran) -> Asked<M, S>
-        requires runs { RunsAs (meaning_of M.means self.mutation self.start) ran self.map }
-        ensures told { (before : ClientState) → BeganAs M.means S.reused before self
-            → Tells result (IsAsked M.means S.reused self.tries before self.change) (λ client reply.
-            EndsCall M.means S.reused self.tries before client self.change (map_ok reply_seen reply)) }
-        ensures next { Tells result (Follows self ran) (λ client reply. Unit {0}) }
-        ensures fresh { Tells result IsUnwritten (λ client reply. Unit {0}) }
-    {
-        let Asking {
-            client,
-            change,
-            attempt,
-            tries,
-        } = self;
-        let mut client = client;
-        let before = client.before();
-        let request = Request {
-            change: &change,
-            before,
-        };
-        client.pinned = false;
-        let progress = ran_from::<M, S>(
-            &client.group,
-            &mut client.seat,
-            attempt,
-            &request,
-            ran,
-            tries,
-        );
-        client.go_on(change, progress, tries)
-    }
-
     /// Gives the change up: nothing was changed. Takes no memory.
     pub fn give_up(self) -> Client<M, S>
         ensures left { (before : ClientState) → BeganAs M.means S.reused before self
@@ -408,6 +367,47 @@ impl<M: Means, S: Store<M>> Asking<M, S> {
         let mut client = client;
         client.unpin();
         client
+    }
+}
+
+impl<M: Runs, S: Store<M>> Asking<M, S> {
+    ghost use Rattle.rebase.specs.Asked.{Tells};
+
+    /// Says how the run ended. What was done to its map is what the group's mutator of that name does there, on those
+    /// arguments, for that reason; and where that refuses or there is none, the run ends as that says. Then the next run
+    /// is asked for, or the call ends: as `try_mutate` and `try_end_pull` do. Where a new mutation's run isn't done, the
+    /// call is refused with `NoMutator` or `Refused`; a pending mutation's leaves the map as it was before it.
+    pub fn ran(self, ran: Ran) -> Asked<M, S>
+        requires runs { RunsAs (meaning_of M.means self.mutation self.start) ran self.map }
+        ensures told { (before : ClientState) → BeganAs M.means S.reused before self
+            → Tells result (IsAsked M.means S.reused self.tries before self.change) (λ client reply.
+            EndsCall M.means S.reused self.tries before client self.change (map_ok reply_seen reply)) }
+        ensures next { Tells result (Follows M.has M.means self ran) (λ client reply. Unit {0}) }
+        ensures fresh { Tells result (IsUnwritten M.has) (λ client reply. Unit {0}) }
+    {
+        let Asking {
+            client,
+            change,
+            attempt,
+            tries,
+        } = self;
+        let mut client = client;
+        let mut found = LastId {
+            at: client.found,
+            id: client.last,
+        };
+        client.pinned = false;
+        let progress = ran_from::<M, S>(
+            &client.group,
+            &mut client.seat,
+            attempt,
+            &change,
+            &mut found,
+            ran,
+            tries,
+        );
+        client.found = found.at;
+        client.go_on(change, progress, tries)
     }
 }
 

@@ -17,7 +17,7 @@ use Rattle.map_chunks.specs.Places.{with_nodes}
 use Rattle.map_nodes.proofs.FreezeLemmas.{nodes-grown}
 use Rattle.commit_graph.proofs.Spelled.{version-grown, snapshot-grown, map-grown}
 use Rattle.replays.specs.Chaining.{HasTip}
-use Rattle.replays.specs.Inside.Undoing.{if_done}
+use Rattle.replays.specs.Undoing.{if_done}
 use Rattle.replays.specs.Pending.{with_more}
 use Rattle.replays.specs.declared.tips.Tip.{Tip}
 

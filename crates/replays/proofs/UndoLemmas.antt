@@ -13,7 +13,7 @@ use Rattle.group_history.specs.declared.mutators.Update.TheVariants.{Put, Refuse
 use Rattle.group_history.specs.Map.{Bytes, Entries}
 use Rattle.group_history.specs.Updating.{UpdatesAs}
 use Rattle.map_chunks.proofs.RowLemmas.{cmp, same_key}
-use Rattle.replays.specs.Inside.Undoing.{undone, with_there}
+use Rattle.replays.specs.Undoing.{undone, with_there}
 
 -- the maps are alike at other keys
 abbrev pub IsElsewhere : Entries → Entries → Bytes → Type 0
@@ -22,11 +22,11 @@ IsElsewhere m n key = (q : Bytes) → is_eq (cmp q key) ≡ false → finite.get
 same_elsewhere : (m n : Entries) (key : Bytes) → n ≡ m → IsElsewhere m n key
 same_elsewhere m n key is q h = ap (λ (w : Entries). finite.get w q) is
 
-inserted : (m n : Entries) (key v : Bytes) → n ≡ finite.insert m key v → IsElsewhere m n key
+pub inserted : (m n : Entries) (key v : Bytes) → n ≡ finite.insert m key v → IsElsewhere m n key
 inserted m n key v is q h = ap (λ (w : Entries). finite.get w q) is
     ∙ (finite.get-insert nat_list_cmp_total m key v q ∙ ap (λ b. cond b (Some v) (finite.get m q)) h)
 
-removed : (m n : Entries) (key : Bytes) → n ≡ finite.remove m key → IsElsewhere m n key
+pub removed : (m n : Entries) (key : Bytes) → n ≡ finite.remove m key → IsElsewhere m n key
 removed m n key is q h = ap (λ (w : Entries). finite.get w q) is
     ∙ (finite.get-remove nat_list_cmp_total m key q ∙ ap (λ b. cond b None (finite.get m q)) h)
 

@@ -1,5 +1,5 @@
-//! Local commits: a new mutation, and pending ones that are replayed.
-ghost use Rattle.std.specs.Prelude.{◌≡◌, ◌≢◌, ◌⊎◌, ◌<◌, ◌≤◌, [], ◌∷◌, false, length, Some, Ok, Err, IfOk, IfErr, IfSome};
+//! Mutations that are replayed: the map that they leave, and a commit for each.
+ghost use Rattle.std.specs.Prelude.{Bool, ◌≡◌, ◌≢◌, ◌⊎◌, ◌<◌, ◌≤◌, [], ◌∷◌, false, length, Some, Ok, Err, IfOk, IfErr, IfSome};
 ghost use Rattle.std.specs.Prelude.{◌++◌, OnOk};
 ghost use mathlib.Core.List.{IsPrefix};
 ghost use Rattle.group_history.specs.Map.{Entries};
@@ -15,46 +15,17 @@ ghost use Rattle.map_chunks.specs.Places.{with_nodes};
 ghost use Rattle.map_tree.specs.Trees.{tree_map};
 ghost use Rattle.replays.specs.Chaining.{HasTip, IsTip};
 ghost use Rattle.replays.specs.Pending.{with_more};
-ghost use Rattle.replays.specs.Inside.Running.{HasRun};
-ghost use Rattle.replays.specs.Inside.Undoing.{if_done};
+ghost use Rattle.replays.specs.Running.{HasRun, MayRun};
+ghost use Rattle.replays.specs.Undoing.{if_done};
 ghost use Rattle.replays.specs.Refusing.{RefusesFor, StopsAs};
 
-use crate::runs::{Run, Setting, replay_on, run_on};
-use crate::tips::{Tip, add_local, add_over};
-use group_history::{CommitChange, Mutation, Mutators, Ran, Ref, Refusal};
+use crate::mutators::Runs;
+use crate::runs::{OwnRun, Replayed, Run, Setting, replay_on, run_on};
+use crate::tips::{Tip, add_over};
+use group_history::{CommitChange, Means, Mutation, Ran, Ref, Refusal};
 use map_tree::{Chunks, Draft, Tree};
 use std::alloc::AllocError;
 use transactions::NamesContents;
-
-/// Drafts a commit of a new mutation. Refused with NoMutator or Refused where its mutator isn't done at
-/// the newest map.
-pub fn draft_mutation<C: Chunks + Copy, K: NamesContents, M: Mutators>(
-    setting: &Setting<'_, C, M>,
-    draft: &mut Draft,
-    tip: Tip,
-    mutation: Mutation,
-) -> Result<Ref, Refusal>
-    requires known { C.contents setting.now.chunks ≡ K.known }
-    requires places { (at : Reference) → C.places setting.now.chunks at }
-    requires behind { draft.old.first ≡ length K.known }
-    requires tip { (s : State) × IsTip M.means (with_nodes K.known draft.old.nodes) tip s }
-    ensures ok { (s : State) → IsTip M.means (with_nodes K.known draft.old.nodes) tip s → s.closed ≡ false
-        → IfOk result (λ at. (by_meaning (meaning_of M.means mutation (view_of M.means s)) mutation.id ≡ Ok mutation.id)
-        × Spells M.means (with_nodes K.known draft.new.nodes) (stamp_of at) (after_mutate s mutation)) }
-    ensures err { (s : State) → IsTip M.means (with_nodes K.known draft.old.nodes) tip s
-        → IfErr result (λ e. RefusesFor C.stops e
-        (by_meaning (meaning_of M.means mutation (view_of M.means s)) mutation.id)) }
-    ensures late { IfErr result (λ e. e ≡ Stamps → IsLate draft.old.first) }
-    ensures needed { IfOk result (λ at. AddsNeeded (tip.commit ∷ []) (at ∷ []) draft.old draft.new) }
-    ensures some { IfOk result (λ _. 0 < length draft.new.nodes) }
-    ensures first { draft.new.first ≡ draft.old.first }
-    ensures new { IfOk result (λ at. draft.old.first ≤ stamp_of at) }
-{
-    let run = run_on::<C, K, M>(setting, draft, Tree::at(tip.root), &mutation)?;
-    let tree = tree_if_done(run)?;
-    let after = add_local(setting.alloc, draft, tree, tip, mutation)?;
-    Ok(after.commit)
-}
 
 /// The tree that a run left, if it was done; else why its mutation is refused.
 pub fn tree_if_done(run: Run) -> Result<Tree, Refusal>
@@ -72,20 +43,22 @@ pub fn tree_if_done(run: Run) -> Result<Tree, Refusal>
     }
 }
 
-/// The tree that a run left, if it was done; else the root from which it began.
-pub fn tree_or_root(run: Run, root: Ref) -> Tree
-    ensures { (contents : Contents) (m : Entries) (meaning : Meaning) → map_at contents (stamp_of root) ≡ Some m
-        → HasRun contents meaning run → tree_map contents result ≡ Some (left_by meaning m) }
+// The tree that a run left, if the group has the mutator and it was done.
+fn tree_if_ran(run: OwnRun) -> Option<Tree>
+    ensures { (contents : Contents) (has : Bool) (meaning : Meaning) (m : Entries)
+        → MayRun contents has meaning m run → IfSome result (λ tree. (n : Entries) × (tree_map contents tree ≡ Some n)
+        × (map_if_done meaning ≡ Ok n)) }
 {
-    let Run { ran, tree } = run;
-    match ran {
-        Ran::Done => tree,
-        Ran::Unknown | Ran::Refused(_) => Tree::at(root),
+    let OwnRun::Ran(run) = run else { return None };
+    match tree_if_done(run) {
+        Ok(tree) => Some(tree),
+        Err(_) => None,
     }
 }
 
-// The map that the mutations leave, run in order on the map of a root; none where a mutator of them isn't done.
-fn run_all<C: Chunks + Copy, K: NamesContents, M: Mutators>(
+// The map that the mutations leave, run in order on the map of a root; none where a mutator of them isn't done, or the
+// group has it not.
+fn run_all<C: Chunks + Copy, K: NamesContents, M: Runs>(
     setting: &Setting<'_, C, M>,
     draft: &Draft,
     root: Ref,
@@ -103,7 +76,7 @@ fn run_all<C: Chunks + Copy, K: NamesContents, M: Mutators>(
     let mut tree = Tree::at(root);
     for mutation in pending {
         let run = run_on::<C, K, M>(setting, draft, tree, mutation)?;
-        let Ok(left) = tree_if_done(run) else {
+        let Some(left) = tree_if_ran(run) else {
             return Ok(None);
         };
         tree = left;
@@ -129,38 +102,42 @@ fn add_if(done: &mut Vec<Mutation>, is_done: bool, mutation: &Mutation) -> Resul
     Ok(())
 }
 
-// The map that the mutations leave, run in order on the map of a root. What one that isn't done wrote is undone.
-fn run_undoing<C: Chunks + Copy, K: NamesContents, M: Mutators>(
+// The map that the mutations leave, run in order on the map of a root. What one that isn't done wrote is undone. None
+// where the group hasn't a mutator.
+fn run_undoing<C: Chunks + Copy, K: NamesContents, M: Runs>(
     setting: &Setting<'_, C, M>,
     draft: &Draft,
     root: Ref,
     pending: &[Mutation],
-) -> Result<Undone, Refusal>
+) -> Result<Option<Undone>, Refusal>
     requires known { C.contents setting.now.chunks ≡ K.known }
     requires places { (at : Reference) → C.places setting.now.chunks at }
     requires behind { draft.now.first ≡ length K.known }
     requires map { (m : Entries) × (map_at (with_nodes K.known draft.now.nodes) (stamp_of root) ≡ Some m) }
     ensures left { (m : Entries) → map_at (with_nodes K.known draft.now.nodes) (stamp_of root) ≡ Some m
-        → IfOk result (λ undone. tree_map (with_nodes K.known draft.now.nodes) undone.tree
-        ≡ Some (map_after M.means m pending.now)) }
+        → IfOk result (λ found. IfSome found (λ undone. tree_map (with_nodes K.known draft.now.nodes) undone.tree
+        ≡ Some (map_after M.means m pending.now))) }
     ensures done { (m : Entries) → map_at (with_nodes K.known draft.now.nodes) (stamp_of root) ≡ Some m
-        → IfOk result (λ undone. map_after M.means m undone.done.items ≡ map_after M.means m pending.now) }
+        → IfOk result (λ found. IfSome found (λ undone. map_after M.means m undone.done.items
+        ≡ map_after M.means m pending.now)) }
     ensures err { IfErr result (λ e. (e ≡ NoMemory) ⊎ StopsAs C.stops e) }
 {
     let mut tree = Tree::at(root);
     let mut done = Vec::new(setting.alloc);
     let mut wrote = false;
     for mutation in pending {
-        let run = replay_on::<C, K, M>(setting, draft, tree, mutation)?;
-        add_if(&mut done, run.done, mutation)?;
-        wrote |= run.wrote;
-        tree = run.tree;
+        let Replayed::Ran(left) = replay_on::<C, K, M>(setting, draft, tree, mutation)? else {
+            return Ok(None);
+        };
+        add_if(&mut done, left.done, mutation)?;
+        wrote |= left.wrote;
+        tree = left.tree;
     }
-    Ok(Undone { tree, done, wrote })
+    Ok(Some(Undone { tree, done, wrote }))
 }
 
 // The same map, in new chunks only where one that was done wrote: these are run once more, if another one wrote too.
-fn run_done<C: Chunks + Copy, K: NamesContents, M: Mutators>(
+fn run_done<C: Chunks + Copy, K: NamesContents, M: Runs>(
     setting: &Setting<'_, C, M>,
     draft: &Draft,
     root: Ref,
@@ -187,30 +164,31 @@ fn run_done<C: Chunks + Copy, K: NamesContents, M: Mutators>(
     }
 }
 
-// The map that the mutations leave, run in order on the map of a root. A note costs half as much as a run of a small
-// mutator: none is taken at first, and where one isn't done all are run once more, with notes. Chunks that are put back
-// are new ones. So where something was put back, those that were done are run a third time, alone.
-fn run_pending<C: Chunks + Copy, K: NamesContents, M: Mutators>(
+/// The map that the mutations leave, run in order on the map of a root; none where the group hasn't a mutator. A note costs
+/// half as much as a run of a small mutator: none is taken at first, and where one isn't done all are run once more, with
+/// notes. Chunks that are put back are new ones. So where something was put back, those that were done are run a third
+/// time, alone.
+pub fn run_pending<C: Chunks + Copy, K: NamesContents, M: Runs>(
     setting: &Setting<'_, C, M>,
     draft: &Draft,
     root: Ref,
     pending: &[Mutation],
-) -> Result<Tree, Refusal>
+) -> Result<Option<Tree>, Refusal>
     requires known { C.contents setting.now.chunks ≡ K.known }
     requires places { (at : Reference) → C.places setting.now.chunks at }
     requires behind { draft.now.first ≡ length K.known }
     requires map { (m : Entries) × (map_at (with_nodes K.known draft.now.nodes) (stamp_of root) ≡ Some m) }
     ensures left { (m : Entries) → map_at (with_nodes K.known draft.now.nodes) (stamp_of root) ≡ Some m
-        → IfOk result (λ tree. tree_map (with_nodes K.known draft.now.nodes) tree
-        ≡ Some (map_after M.means m pending.now)) }
+        → IfOk result (λ found. IfSome found (λ tree. tree_map (with_nodes K.known draft.now.nodes) tree
+        ≡ Some (map_after M.means m pending.now))) }
     ensures err { IfErr result (λ e. (e ≡ NoMemory) ⊎ StopsAs C.stops e) }
 {
-    match run_all::<C, K, M>(setting, draft, root, pending)? {
-        Some(tree) => Ok(tree),
-        None => {
-            let undone = run_undoing::<C, K, M>(setting, draft, root, pending)?;
-            run_done::<C, K, M>(setting, draft, root, undone)
-        }
+    if let Some(tree) = run_all::<C, K, M>(setting, draft, root, pending)? {
+        return Ok(Some(tree));
+    }
+    match run_undoing::<C, K, M>(setting, draft, root, pending)? {
+        Some(undone) => Ok(Some(run_done::<C, K, M>(setting, draft, root, undone)?)),
+        None => Ok(None),
     }
 }
 
@@ -268,33 +246,33 @@ fn add_all<K: NamesContents>(
     add_over(draft, tip, root, CommitChange::Local(mutation))
 }
 
-/// Drafts a commit for each of the mutations, in order. They are run on one tree, from which what a mutator that isn't
-/// done wrote is taken back, and the last commit alone has its map: queries read at heads, and no other of these
-/// commits is one.
-pub fn replay<C: Chunks + Copy, K: NamesContents, M: Mutators>(
+/// Drafts a commit for each of the mutations, in order. The last one alone has the map that they left, which the tree is:
+/// queries read at heads, and no other of these commits is one.
+pub fn add_replayed<C: Chunks + Copy, K: NamesContents, M: Means>(
     setting: &Setting<'_, C, M>,
     draft: &mut Draft,
     basis: Tip,
     pending: &[Mutation],
+    tree: Tree,
 ) -> Result<Tip, Refusal>
     requires known { C.contents setting.now.chunks ≡ K.known }
-    requires places { (at : Reference) → C.places setting.now.chunks at }
     requires behind { draft.old.first ≡ length K.known }
-    requires tip { (s : State) × IsTip M.means (with_nodes K.known draft.old.nodes) basis s × (s.closed ≡ false) }
+    requires tip { (s : State) × IsTip M.means (with_nodes K.known draft.old.nodes) basis s × (s.closed ≡ false)
+        × (tree_map (with_nodes K.known draft.old.nodes) tree ≡ Some (map_after M.means (view_of M.means s) pending.now)) }
     ensures tip { (s : State) → IsTip M.means (with_nodes K.known draft.old.nodes) basis s → s.closed ≡ false
+        → tree_map (with_nodes K.known draft.old.nodes) tree ≡ Some (map_after M.means (view_of M.means s) pending.now)
         → IfOk result (λ after. IsTip M.means (with_nodes K.known draft.new.nodes) after (with_more s pending.now)) }
     ensures needed { IfOk result (λ tip. AddsNeeded (basis.commit ∷ []) (tip.commit ∷ []) draft.old draft.new) }
     ensures some { 0 < length draft.old.nodes → OnOk result (0 < length draft.new.nodes) }
     ensures first { draft.new.first ≡ draft.old.first }
     ensures new { draft.old.first ≤ stamp_of basis.commit
         → IfOk result (λ tip. draft.old.first ≤ stamp_of tip.commit) }
-    ensures err { IfErr result (λ e. (e ≡ NoMemory) ⊎ (e ≡ Stamps) ⊎ StopsAs C.stops e) }
+    ensures why { IfErr result (λ e. (e ≡ NoMemory) ⊎ (e ≡ Stamps)) }
     ensures late { IfErr result (λ e. e ≡ Stamps → IsLate draft.old.first) }
 {
     let Some((last, before)) = pending.split_last() else {
         return Ok(basis);
     };
-    let tree = run_pending::<C, K, M>(setting, draft, basis.root, pending)?;
     let root = tree.freeze(setting.alloc, draft)?;
     add_all::<K>(draft, basis, before, last, root)
 }

@@ -14,7 +14,6 @@ ghost use Rattle.map_tree.specs.Trees.{tree_map, tree_places};
 ghost use Rattle.replays.specs.Chaining.{HasTip};
 ghost use Rattle.replays.specs.Refusing.{StopsAs};
 
-use crate::locals::replay;
 use crate::patches::patched_map;
 use crate::runs::Setting;
 use crate::tips::{Tip, add_snapshot};
@@ -27,13 +26,6 @@ use map_tree::{Chunks, Draft, Tree};
 use std::alloc::{AllocError, Global};
 use std::cmp::Ordering;
 use transactions::NamesContents;
-
-/// What a pull leads to: the commit of the state after it, and how many mutations stay pending there.
-#[derive(Clone, Copy)]
-pub struct RebasedHead {
-    pub commit: Ref,
-    pub left: usize,
-}
 
 /// How a pull ends that brought no error, by the state's cookie and confirmed ids.
 pub fn pull_outcome(base: &Base, ticket: &Cookie, pull: &PullOk) -> Result<Ended, Refusal>
@@ -132,41 +124,4 @@ pub fn after_changes(
     let confirmed = base.confirmed.overwritten(alloc, pull.changes())?;
     let left = keep_unconfirmed(alloc, confirmed.as_map(), pending)?;
     Ok((confirmed, left))
-}
-
-/// Drafts the commits of the state after a pull: a snapshot of the patched map, and on it the mutations
-/// that stay pending, replayed. A patch without operations shares the whole pulled map, and a response
-/// without changes the confirmed ids.
-pub fn draft_rebase<C: Chunks + Copy, K: NamesContents, M: Mutators>(
-    setting: &Setting<'_, C, M>,
-    draft: &mut Draft,
-    base: &Base,
-    pending: &[Mutation],
-    pull: &PullOk,
-) -> Result<RebasedHead, Refusal>
-    requires known { C.contents setting.now.chunks ≡ K.known }
-    requires places { (at : Reference) → C.places setting.now.chunks at }
-    requires behind { draft.old.first ≡ length K.known }
-    requires map { IsSome (map_at (with_nodes K.known draft.old.nodes) (stamp_of base.now.pulled)) }
-    ensures spelled { (s : State) → map_at (with_nodes K.known draft.old.nodes) (stamp_of base.now.pulled)
-        ≡ Some s.pulled → s.confirmed ≡ base.now.confirmed → s.pending ≡ pending.now → s.closed ≡ false
-        → IfOk result (λ made. Spells M.means (with_nodes K.known draft.new.nodes) (stamp_of made.commit)
-        (after_pull s pull.now)) }
-    ensures left { (s : State) → s.confirmed ≡ base.now.confirmed → s.pending ≡ pending.now
-        → IfOk result (λ made. made.left ≡ length (after_pull s pull.now).pending) }
-    ensures needed { IfOk result (λ made. AddsNeeded [] (made.commit ∷ []) draft.old draft.new) }
-    ensures in_range { AreInRange pull.now.changes }
-    ensures some { IfOk result (λ _. 0 < length draft.new.nodes) }
-    ensures first { draft.new.first ≡ draft.old.first }
-    ensures new { IfOk result (λ made. draft.old.first ≤ stamp_of made.commit) }
-    ensures err { IfErr result (λ e. (e ≡ NoMemory) ⊎ (e ≡ Stamps) ⊎ StopsAs C.stops e) }
-    ensures late { IfErr result (λ e. e ≡ Stamps → IsLate draft.old.first) }
-{
-    let (confirmed, left) = after_changes(setting.alloc, base, pending, pull)?;
-    let snapshot = add_patched::<C, K, M>(setting, draft, base.pulled, pull, confirmed)?;
-    let tip = replay::<C, K, M>(setting, draft, snapshot, &left)?;
-    Ok(RebasedHead {
-        commit: tip.commit,
-        left: left.len(),
-    })
 }

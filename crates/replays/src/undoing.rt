@@ -8,7 +8,7 @@ ghost use Rattle.std.specs.Coded.{codes};
 ghost use Rattle.std.specs.FinMap as finite;
 ghost use Rattle.group_history.specs.declared.mutators.Stop.TheVariants.{NoMemory};
 ghost use Rattle.group_history.specs.Map.{Entries};
-ghost use Rattle.replays.specs.Inside.Undoing.{entries_coded, undone, with_there};
+ghost use Rattle.replays.specs.Undoing.{entries_coded, undone, with_there};
 
 use group_history::{Json, Ran, Scan, Stop, Text, Update, WriteView};
 use std::alloc::{AllocError, Global};
@@ -33,7 +33,8 @@ pub(crate) struct Undoing<V: WriteView, K: NamesMap> {
     ghost kept: { undone before.items (V.contents view) ≡ K.start } by { Prim.hlevel (codes, entries_coded) },
 }
 
-fn add_note(
+/// Adds a note of what was at a key.
+pub(crate) fn add_note(
     before: &mut Vec<(Text, Option<Json>)>,
     key: Text,
     there: Option<Json>,
@@ -54,6 +55,21 @@ fn put_back<V: WriteView>(view: &mut V, key: &Text, there: Option<Json>) -> Resu
         Some(value) => view.put(key.as_str(), &value),
         None => view.del(key.as_str()),
     }
+}
+
+/// Puts back all that was noted, the newest note first.
+pub(crate) fn put_all_back<V: WriteView + Drop>(
+    view: V,
+    before: Vec<(Text, Option<Json>)>,
+) -> Result<V, Stop>
+    ensures ok { IfOk result (λ left. V.contents left ≡ undone before.items (V.contents view)) }
+    ensures stopped { IfErr result V.stops }
+{
+    let (mut view, mut before) = (view, before);
+    while let Some((key, there)) = before.pop() {
+        put_back(&mut view, &key, there)?;
+    }
+    Ok(view)
 }
 
 impl<V: WriteView + Drop, K: NamesMap> Undoing<V, K> {
@@ -108,14 +124,11 @@ impl<V: WriteView + Drop, K: NamesMap> Undoing<V, K> {
     {
         let Undoing {
             alloc: _,
-            mut view,
-            mut before,
+            view,
+            before,
             of: _,
         } = self;
-        while let Some((key, there)) = before.pop() {
-            put_back(&mut view, &key, there)?;
-        }
-        Ok(view)
+        put_all_back(view, before)
     }
 }
 

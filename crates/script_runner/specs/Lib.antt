@@ -7,5 +7,5 @@ pub mod Commanding
 pub mod Phases
 pub mod Answering
 pub mod Runs
--- Words that only private clauses of this crate use.
+-- Words of private clauses of this crate, and in Players what `players_in` of Answering is.
 pub mod Inside

@@ -10,6 +10,7 @@ ghost use Rattle.group_history.specs.Updating.{UpdatesAs};
 ghost use Rattle.group_history.specs.declared.mutators.Stop.TheVariants.{NoMemory};
 ghost use Rattle.group_history.specs.declared.mutators.Update.{Update as Updates};
 ghost use Rattle.map_chunks.specs.Places.{Grows, AreAll, AreKept};
+ghost use Rattle.map_tree.specs.Dels.{IsDel};
 ghost use Rattle.map_tree.specs.Puts.{IsPut, IsUpdate};
 ghost use Rattle.map_tree.specs.Trees.{tree_places, tree_map, tree_depth, tree_fresh, HasWideRoot};
 ghost use Rattle.transactions.specs.Maps.{shown_map, all_prop};
@@ -158,6 +159,8 @@ impl<C: Chunks> WriteView for WriteTx<C> {
         ensures tree { OnErr result (self.new.tree ≡ self.old.tree) }
         ensures same { finite.get (shown_map (C.contents self.old.chunks) self.old.tree) key.now ≡ None
             → OnOk result (self.new.tree ≡ self.old.tree) }
+        ensures levels { OnOk result (IsDel (C.contents self.old.chunks) (C.contents self.new.chunks) self.old.tree
+            self.new.tree) }
         ensures few { (d : ℕ) → tree_depth (C.contents self.old.chunks) self.old.tree ≡ Some d
             → OnOk result (tree_fresh self.new.tree ≤ tree_fresh self.old.tree + d) }
         ensures deep { (d : ℕ) → tree_depth (C.contents self.old.chunks) self.old.tree ≡ Some d

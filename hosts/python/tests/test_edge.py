@@ -8,6 +8,7 @@ import json
 import re
 import threading
 import unittest
+from collections.abc import Callable
 from pathlib import Path
 from unittest import mock
 
@@ -130,6 +131,12 @@ class Calls(unittest.TestCase):
             self.assertEqual(anna.mutate("set", ["a", number]), number)
         self.refused(Why.FULL, anna.mutate, "set", ["a", 6])
 
+    def test_slots_of_refused_replays(self) -> None:
+        still = ["need", ["same", ["get", "flag"], 0], 7]
+        put_n = ["put", "n", ["arg", 0]]
+        rules: Json = {"before": [still, put_n], "after": [put_n, still], "done": [put_n]}
+        fill_by_replays(self, lambda: Group(ID, profile="p1", schema="s1", rules=rules, slots=64, places=1))
+
     def test_refused_pulls(self) -> None:
         anna, bert = seated()
         late = bert.begin_pull()
@@ -214,6 +221,49 @@ class Calls(unittest.TestCase):
         self.refused(Why.NO_PLACE, group.places[0].leave)
         del group, anna, bert
         gc.collect()
+
+
+def fill_by_replays(case: unittest.TestCase, opened: Callable[[], Group]) -> None:
+    """Ends a pull that leaves so many mutations pending as 64 slots are enough for, and one more: Full.
+
+    48 of 64 slots are for a pull that leaves something pending. Before it a snapshot and a leaf take two, and so do its
+    own. Each mutation takes two, and one more in the pull. The map after the replays takes one, if they change it.
+    """
+    for name, every in [(name, every) for name in ("before", "after") for every in (1, 2, 8)]:
+        for pending in (14, 15):
+            (anna,) = opened().places
+            anna.sit(ANNA)
+            pull(anna, response(1, put("flag", 0), put("n", 0)))
+            for number in range(1, pending + 1):
+                anna.mutate("done" if number % every else name, [number])
+            if pending == 15:
+                with case.assertRaises(Refusal) as told:
+                    pull(anna, response(2, put("flag", 1)))
+                case.assertIs(told.exception.why, Why.FULL)
+                continue
+            case.assertIs(pull(anna, response(2, put("flag", 1))), Ended.APPLIED)
+            last = {1: 0, 2: 13, 8: 14}[every]
+            case.assertEqual((anna.scan(), len(anna.pending())), ([("flag", 1), ("n", last)], 14))
+
+
+def put_before(draft: Draft, args: Json) -> None:
+    """Refuses where the flag isn't 0, before it writes."""
+    if draft.get("flag") != 0:
+        raise Refuse(7)
+    put_n(draft, args)
+
+
+def put_after(draft: Draft, args: Json) -> None:
+    """Refuses where the flag isn't 0, after it wrote."""
+    put_n(draft, args)
+    if draft.get("flag") != 0:
+        raise Refuse(7)
+
+
+def put_n(draft: Draft, args: Json) -> None:
+    """Puts the number."""
+    assert isinstance(args, list)
+    draft.put("n", args[0])
 
 
 def note(draft: Draft, args: Json) -> None:
@@ -313,6 +363,10 @@ class OwnMutators(unittest.TestCase):
         for thread in threads:
             thread.join()
         self.assertEqual((anna.get("n"), anna.refresh(), bert.refresh()), (800, 400, 400))
+
+    def test_slots(self) -> None:
+        own = {"before": put_before, "after": put_after, "done": put_n}
+        fill_by_replays(self, lambda: Group(ID, profile="p1", schema="s1", mutators=own, slots=64, places=1))
 
     def test_opening(self) -> None:
         with self.assertRaises(Refusal) as told:

@@ -48,6 +48,19 @@ class Grows(WithServer):
             self.quiet(anna)
             anna.close()
 
+    def test_by_two_maps_side_by_side(self) -> None:
+        version = 1
+
+        def pulled(body: bytes, headers: dict[str, str]) -> Reply:
+            news = json.loads(body)["cookie"] != version
+            patch = [{"op": "put", "key": f"{number:02}", "value": version} for number in range(57 if news else 0)]
+            return Reply(200, json.dumps({"cookie": version, "lastMutationIDChanges": {}, "patch": patch}).encode())
+
+        anna = self.rep(slots=16, pusher=offline, puller=pulled, pull_interval=None)
+        for version, slots in ((1, 16), (2, 32)):
+            anna.pull(now=True).result(10)
+            self.assertEqual((set(rows(anna).values()), anna._kept.slots), ({version}, slots))
+
     def test_by_a_pull_that_confirms_bit_by_bit(self) -> None:
         anna = self.rep(slots=1024, pusher=offline, pull_interval=None)
         for number in range(300):

@@ -155,7 +155,7 @@ impl Refusal {
             }
             Refusal::Gone => "a slot was given again while it was looked for: call again",
             Refusal::Full => {
-                "no slot is free for the change: close readers, end a pull that confirms, or open a larger group"
+                "no slot is free for the change: close readers, pull what confirms or clears, or open a larger group"
             }
             Refusal::Stamps => "the group has too few stamps left: open a new group",
             Refusal::Stale => {

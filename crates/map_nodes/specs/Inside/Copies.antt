@@ -31,5 +31,5 @@ chunk_marks depth (Inner kids) =
 
 -- one chunk, with the pieces of the copied one, as many keys, and its children
 abbrev pub IsCopy : ℕ → Chunk Ref → Seen → Type 0
-IsCopy depth c n = (n.depth ≡ depth) × (n.pieces ≡ chunk_pieces depth c) × (n.fresh ≡ 1) × (n.entries ≡ chunk_entries c)
+IsCopy depth c n = (n.depth ≡ depth) × (n.pieces ≡ chunk_pieces depth c) × (n.entries ≡ chunk_entries c)
     × (n.marks ≡ chunk_marks depth c)

@@ -1,11 +1,6 @@
--- How many chunks and keys a put makes.
+-- How many keys a put makes.
 use Rattle.std.specs.Prelude.{◌≡◌, ◌⊎◌, ◌<◌, ◌+◌, ℕ, Option, Some, None}
 use Rattle.map_nodes.specs.declared.nodes.putting.Half.{Half}
-
--- how many own chunks an upper half is
-abbrev pub half_fresh : Option Half → ℕ
-half_fresh None = 0
-half_fresh (Some h) = h.node.value.fresh
 
 -- A chunk that isn't split has its keys, or one more, and at most 16. One that is split had 16; 8 keys stay, and 9 go.
 abbrev pub HasKept : ℕ → ℕ → Option Half → Type 0

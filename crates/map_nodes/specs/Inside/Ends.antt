@@ -1,13 +1,17 @@
 -- What a draft's chunks with one child each end in.
-use Rattle.std.specs.Prelude.{◌≡◌, ◌<◌, ◌≤◌, ℕ, List, [], ◌∷◌, Option, Some, None}
+use Rattle.std.specs.Prelude.{◌≡◌, ◌+◌, ℕ, zero, suc, List, [], ◌∷◌, Option, Some, None}
+use mathlib.Core.List.{IsPrefix}
 use Rattle.group_history.specs.declared.refs.Ref.{Ref}
+use Rattle.group_history.specs.Refs.{stamp_of}
 use Rattle.group_history.specs.Rows.{Rows}
 use Rattle.group_history.specs.Spelling.{Contents}
 use Rattle.map_chunks.specs.Shown.{Part, value, chunk, Piece, Seen}
 use Rattle.map_chunks.specs.Wide.{IsWideChunk}
 use Rattle.map_nodes.specs.declared.nodes.OwnChild.{OwnChild}
 use Rattle.map_nodes.specs.declared.nodes.OwnChild.TheVariants.{Placed, Own}
-use Rattle.map_chunks.specs.Ends.{IsEnd, IsNoDeeper}
+use Rattle.map_chunks.specs.Ends.{IsEnd}
+use Rattle.map_chunks.specs.Seeking.{chunk_depth}
+use Rattle.map_nodes.specs.Levels.{Levels, Member, placed_levels, seen_levels}
 
 -- the placed chunk of a piece
 abbrev pub part_ref : Part → Option Ref
@@ -30,26 +34,44 @@ abbrev pub IsKidEnd : Contents → Option Rows → OwnChild → Option Ref → T
 IsKidEnd contents rows kid None = end_of kid ≡ None
 IsKidEnd contents rows kid (Some at) = IsEnd contents rows at
 
--- what a draft's own child ends in: it shows the same, is wide, and is no deeper
+-- one chunk with one child stands on each of so many levels, and these are below them
+abbrev pub Narrows : ℕ → Levels → Levels → Type 0
+Narrows zero levels below = (level : ℕ) → levels level ≡ below level
+Narrows (suc many) levels below = (chunk : Member) × (levels 0 ≡ chunk ∷ [])
+    × Narrows many (λ level. levels (suc level)) below
+
+-- whatever is placed later, and however many chunks these are
+abbrev pub NarrowsLater : Contents → ℕ → ℕ → (Contents → Levels) → (Contents → Levels) → Type 0
+NarrowsLater contents was deep old new = (many : ℕ) × (many + deep ≡ was)
+    × ((later : Contents) → IsPrefix contents later → Narrows many (old later) (new later))
+
+-- what a draft's own child ends in: it shows the same, is wide, and has the chunks of the child behind those with one
+-- child each
 abbrev pub IsTaken : OwnChild → Seen → Type 0
 IsTaken (Placed at) n = ⊥
-IsTaken (Own m) n = (n.pieces ≡ m.value.pieces) × IsWideChunk n × (n.fresh ≤ m.value.fresh) × (n.depth ≤ m.value.depth)
+IsTaken (Own m) n = (n.pieces ≡ m.value.pieces) × IsWideChunk n
+    × NarrowsLater [] m.value.depth n.depth (seen_levels m.value) (seen_levels n)
 
--- the placed chunk that is all there is below a draft's chunk, if this is so, is less deep
-abbrev pub IsPartBelow : ℕ → Part → Type 0
-IsPartBelow depth (value v) = Unit {0}
-IsPartBelow depth (chunk d at) = d < depth
+-- the placed chunk that is all there is below a draft's chunk, if this is so, stands behind chunks with one child each
+abbrev pub IsPartBelow : ℕ → (Contents → Levels) → Part → Type 0
+IsPartBelow depth levels (value v) = Unit {0}
+IsPartBelow depth levels (chunk d at) = NarrowsLater [] depth d levels (λ p. placed_levels p d (stamp_of at))
 
-abbrev pub IsEndBelow : ℕ → List Piece → Type 0
-IsEndBelow depth [] = Unit {0}
-IsEndBelow depth (q ∷ []) = IsPartBelow depth q.1
-IsEndBelow depth (q ∷ r ∷ qs) = Unit {0}
+abbrev pub IsEndBelow : ℕ → (Contents → Levels) → List Piece → Type 0
+IsEndBelow depth levels [] = Unit {0}
+IsEndBelow depth levels (q ∷ []) = IsPartBelow depth levels q.1
+IsEndBelow depth levels (q ∷ r ∷ qs) = Unit {0}
 
 abbrev pub IsKidBelow : OwnChild → Type 0
 IsKidBelow (Placed at) = Unit {0}
-IsKidBelow (Own n) = IsEndBelow n.value.depth n.value.pieces
+IsKidBelow (Own n) = IsEndBelow n.value.depth (seen_levels n.value) n.value.pieces
 
--- a placed chunk, if there is one, is at most so deep
-abbrev pub IfNoDeeper : Contents → ℕ → Option Ref → Type 0
-IfNoDeeper contents depth None = Unit {0}
-IfNoDeeper contents depth (Some at) = IsNoDeeper contents depth at
+-- a placed chunk stands behind chunks with one child each, of which the first is so deep
+abbrev pub EndsAt : Contents → ℕ → (Contents → Levels) → Ref → Type 0
+EndsAt contents depth levels at = (deep : ℕ) × (chunk_depth contents (stamp_of at) ≡ Some deep)
+    × NarrowsLater contents depth deep levels (λ p. placed_levels p deep (stamp_of at))
+
+-- so does a placed chunk, if there is one
+abbrev pub IfEndsAt : Contents → ℕ → (Contents → Levels) → Option Ref → Type 0
+IfEndsAt contents depth levels None = Unit {0}
+IfEndsAt contents depth levels (Some at) = EndsAt contents depth levels at

@@ -15,7 +15,7 @@ use Rattle.map_nodes.specs.Nodes.{child_levels}
 use Rattle.map_nodes.specs.declared.nodes.OwnChild.{OwnChild}
 use Rattle.map_nodes.specs.declared.nodes.OwnChild.TheVariants.{Placed, Own}
 use Rattle.map_chunks.specs.Places.{AddsNamed, places_of, with_nodes}
-use Rattle.map_chunks.specs.Shown.{Seen, shown}
+use Rattle.map_chunks.specs.Shown.{Seen, shown, fresh}
 use Rattle.map_chunks.specs.Wide.{IsWideAt}
 
 -- an own child is so deep
@@ -73,5 +73,5 @@ pub record IsWritten (first : ℕ) (old new : List (Node Ref)) (n : Seen) (at : 
   pub named : AddsNamed first (places_of n.pieces) old new
   pub drafted : (first ≤ stamp_of at) × (slot_of at ≡ 0)
   pub below : stamp_of at < first + length new
-  pub count : length new ≡ length old + n.fresh
+  pub count : length new ≡ length old + fresh n
   pub grown : IsPrefix old new

@@ -83,5 +83,5 @@ HeadsBoth (Some first) lower upper = HeadIs first lower × AreInOrder first uppe
 abbrev pub IsTopped : Seen → Option Half → Seen → Type 0
 IsTopped n None root = root ≡ n
 IsTopped n (Some h) root = (root.pieces ≡ n.pieces ++ h.node.value.pieces) × (root.depth ≡ n.depth + 1)
-    × (root.fresh ≡ n.fresh + h.node.value.fresh + 1) × (root.entries ≡ 2)
+    × (root.entries ≡ 2)
     × ((key : Bytes) × (root.marks ≡ own 0 (child_keys (key ∷ [])) ∷ sunk (n.marks ++ h.node.value.marks)))

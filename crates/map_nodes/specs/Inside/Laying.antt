@@ -1,6 +1,6 @@
 -- The way down from a placed chunk to a key, and the new chunks that are made on the way up.
-use Rattle.std.specs.Prelude.{◌≡◌, Bool, true, ℕ, ◌+◌, ◌-◌, ◌*◌, ◌^◌, ◌≤◌, ◌<◌, List, [], ◌∷◌, ◌++◌, length}
-use Rattle.std.specs.Prelude.{reverse, slice_index_or, slice_set, Option, Some, None, IsSome}
+use Rattle.std.specs.Prelude.{◌≡◌, Bool, true, ℕ, ◌+◌, ◌-◌, ◌^◌, ◌≤◌, ◌<◌, List, [], ◌∷◌, ◌++◌, length, reverse}
+use Rattle.std.specs.Prelude.{slice_index_or, slice_set, Option, Some, None, IsSome}
 use Rattle.std.specs.Arc.{arc_value}
 use Rattle.std.specs.Ordering.{nat_cmp}
 use Rattle.std.specs.Cmp.Lexicographic.{slice_cmp}
@@ -16,13 +16,13 @@ use Rattle.map_chunks.specs.Places.{AreKept, places_of}
 use Rattle.map_chunks.specs.Search.{IsPlace}
 use Rattle.map_chunks.specs.Shown.{own, leaf_keys, Seen, shown}
 use Rattle.map_chunks.specs.Wide.{IsWideAt, IsWideChunk}
-use Rattle.map_nodes.specs.Inside.Counts.{half_fresh, HasKept}
+use Rattle.map_nodes.specs.Inside.Counts.{HasKept}
 use Rattle.map_nodes.specs.Inside.Halves.{half_pieces, lowered, with_half, Finished, IsHalf, IsLower}
 use Rattle.map_nodes.specs.Inside.Nodes.{Kid}
 use Rattle.map_nodes.specs.Inside.Puts.{half_levels, IsHalved, IsLeafPut}
 use Rattle.map_nodes.specs.Inside.Ready.{Fits}
 use Rattle.map_nodes.specs.Levels.{parting, placed_levels, seen_levels, ArePut, RenewedLater}
-use Rattle.map_nodes.specs.Nodes.{Kids, kids_fresh, kids_height, kids_marks, kids_pieces, row_pieces, sunk}
+use Rattle.map_nodes.specs.Nodes.{Kids, kids_height, kids_marks, kids_pieces, row_pieces, sunk}
 use Rattle.map_nodes.specs.Trails.{placed_kids, IsEnd, IsTrail, trail_seen}
 use Rattle.map_nodes.specs.declared.nodes.OwnChild.{OwnChild}
 use Rattle.map_nodes.specs.declared.nodes.OwnChild.TheVariants.{Own}
@@ -40,7 +40,6 @@ rows_seen keys values = record {
   entries = length keys;
   pieces = row_pieces (paired keys values);
   height = 1;
-  fresh = 1;
   marks = own 0 (leaf_keys keys) ∷ [];
 }
 
@@ -63,7 +62,6 @@ pub record IsMadeLeaf (copies : ℕ) (rows : Rows) (key value : Bytes) (n : Seen
   pub pieces_are : n.pieces ++ half_pieces half ≡ row_pieces (put (slice_cmp nat_cmp) key value rows)
   pub half_is : IsHalf copies 1 half
   pub filled : 0 < length n.pieces
-  pub fresh : (n.fresh ≡ 1) × (half_fresh half ≤ 1)
   pub keys : (keys : List Bytes) × (n.marks ≡ own 0 (leaf_keys keys) ∷ [])
       × HasKept (length rows) (length keys) half × IsLeafPut (keys_of rows) keys half
   pub renewed : IsSome (find (slice_cmp nat_cmp) key rows)
@@ -77,10 +75,9 @@ pub record IsMade (contents : Contents) (places : Ref → Type 0) (copies stamp 
   pub shown_is : shown contents (n.pieces ++ half_pieces half) ≡ Some (put (slice_cmp nat_cmp) key value rows)
   pub half_is : IsHalf copies depth half
   pub filled : 0 < length n.pieces
-  pub few : n.fresh + half_fresh half ≤ 2 * depth
-  pub replaced : IsSome (find (slice_cmp nat_cmp) key rows) → (half ≡ None) × (n.fresh ≤ depth)
-      × RenewedLater contents (λ p. placed_levels p depth stamp) (seen_levels n)
-  pub levels : (later : Contents) → IsPrefix contents later → ArePut (placed_levels later depth stamp)
+  pub replaced : IsSome (find (slice_cmp nat_cmp) key rows) → (half ≡ None)
+      × RenewedLater contents depth (λ p. placed_levels p depth stamp) (seen_levels n)
+  pub levels : (later : Contents) → IsPrefix contents later → ArePut depth (placed_levels later depth stamp)
       (λ level. seen_levels n later level ++ half_levels half later level)
   pub kept : AreKept places [] (places_of (n.pieces ++ half_pieces half))
   pub wide : IsWideAt contents stamp → IsWideChunk n
@@ -123,7 +120,6 @@ inner_seen depth keys kids = record {
   entries = length keys;
   pieces = kids_pieces (depth - 1) (paired keys kids);
   height = kids_height kids + 2;
-  fresh = kids_fresh kids + 1;
   marks = own 0 (parting keys) ∷ sunk (kids_marks (depth - 1) kids);
 }
 
@@ -159,7 +155,6 @@ pub record IsGrownOver (copies depth : ℕ) (kids : List (Bytes × Ref)) (key : 
   pub is : n ≡ inner_seen depth keys children
   pub shape : Finished depth (entries_over kids place lower kid half) keys children made
   pub half_is : IsHalf copies depth made
-  pub few : kids_fresh children + half_fresh made ≤ child.fresh + half_fresh half + 1
   pub entries : HasKept (length kids) (length keys) made
   pub parted : IsHalved depth keys children made (keys_of (entries_over kids place lower kid half))
       (values_of (entries_over kids place lower kid half))

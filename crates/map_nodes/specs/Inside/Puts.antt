@@ -1,6 +1,6 @@
 -- What a put makes of the levels of children and halves, whatever is placed later.
-use Rattle.std.specs.Prelude.{◌≡◌, ◌⊎◌, ℕ, ◌+◌, ◌-◌, ◌<◌, ◌≤◌, ◌∷◌, ◌++◌, [], List, Option, Some, None, IsSome}
-use Rattle.std.specs.Prelude.{slice_set, length, take, drop}
+use Rattle.std.specs.Prelude.{◌≡◌, ◌⊎◌, ℕ, ◌-◌, ◌≤◌, ◌∷◌, ◌++◌, [], List, Option, Some, None, IsSome, slice_set, length}
+use Rattle.std.specs.Prelude.{take, drop}
 use Rattle.std.specs.Ordering.{nat_cmp}
 use Rattle.std.specs.Cmp.Lexicographic.{slice_cmp}
 use Rattle.std.specs.FinMap.{find, put}
@@ -12,7 +12,7 @@ use Rattle.map_chunks.specs.Shown.{own, leaf_keys, Piece, Seen, rows_or, shown}
 use Rattle.map_nodes.specs.Inside.Halves.{half_pieces, ChildPut}
 use Rattle.map_nodes.specs.Inside.Nodes.{Kid}
 use Rattle.map_nodes.specs.Levels.{Levels, nothing, parting, seen_levels, ArePut, HasOneMore, RenewedLater}
-use Rattle.map_nodes.specs.Nodes.{child_fresh, child_levels, child_pieces, kids_marks, sunk}
+use Rattle.map_nodes.specs.Nodes.{child_levels, child_pieces, kids_marks, sunk}
 use Rattle.map_nodes.specs.Others.{ArePutAmong}
 use Rattle.map_nodes.specs.declared.nodes.OwnChild.{OwnChild}
 use Rattle.map_nodes.specs.declared.nodes.OwnChild.TheVariants.{Own}
@@ -45,12 +45,12 @@ IsHalved deep keys kids (Some h) firsts all = (length firsts ≡ 17) × (keys �
 -- a put made of a chunk this one and its upper half
 abbrev pub HalvesPut : Contents → Seen → Seen → Option Half → Type 0
 HalvesPut contents old new half = (later : Contents) → IsPrefix contents later
-    → ArePut (seen_levels old later) (λ level. seen_levels new later level ++ half_levels half later level)
+    → ArePut old.depth (seen_levels old later) (λ level. seen_levels new later level ++ half_levels half later level)
 
 -- a put made of the child at a place an own one and its upper half
 abbrev pub ChildHalvesPut : Contents → ℕ → ℕ → List OwnChild → List OwnChild → OwnChild → Option Half → Type 0
 ChildHalvesPut contents below place old new child half = (n : Kid) × (new ≡ slice_set old place (Own n))
-    × ((later : Contents) → IsPrefix contents later → ArePut (child_levels below child later)
+    × ((later : Contents) → IsPrefix contents later → ArePut below (child_levels below child later)
     (λ level. seen_levels n.value later level ++ half_levels half later level))
 
 -- the value at a key, of the rows that are shown
@@ -61,27 +61,26 @@ value_in rows key = find (slice_cmp nat_cmp) key (rows_or rows)
 abbrev pub HasReplacedRow : Option Bytes → Bytes → List Bytes → List Bytes → Option Half → Type 0
 HasReplacedRow found value old new half = IsSome found → (found ≡ Some value → ⊥) × (new ≡ old) × (half ≡ None)
 
--- Where the key was there, it had another value, and the chunk isn't split: fewer own chunks than the bound are there
--- then, of which one on each level at most is new, with the same keys.
-abbrev pub HasReplaced : Contents → Option Bytes → Bytes → ℕ → ℕ → (Contents → Levels) → (Contents → Levels)
+-- Where the key was there, it had another value, and the chunk, which is so deep, isn't split: one on each level at
+-- most is new, with the same keys.
+abbrev pub HasReplaced : Contents → Option Bytes → Bytes → ℕ → (Contents → Levels) → (Contents → Levels)
     → Option Half → Type 0
-HasReplaced contents found value bound fresh old new half = IsSome found → (found ≡ Some value → ⊥)
-    × (half ≡ None) × (fresh < bound) × RenewedLater contents old new
+HasReplaced contents found value deep old new half = IsSome found → (found ≡ Some value → ⊥)
+    × (half ≡ None) × RenewedLater contents deep old new
 
 -- an own child stands at the place of this one, of which the same holds
 abbrev pub ChildReplaced : Contents → Option Bytes → Bytes → ℕ → ℕ → List OwnChild → List OwnChild → OwnChild
     → Option Half → Type 0
 ChildReplaced contents found value below place old new child half = (n : Kid) × (new ≡ slice_set old place (Own n))
-    × HasReplaced contents found value (child_fresh child + below + 1) n.value.fresh (child_levels below child)
-    (seen_levels n.value) half
+    × HasReplaced contents found value below (child_levels below child) (seen_levels n.value) half
 
 -- A value is put in an own chunk: what it and its upper half show then, which of its pieces are the same, and what holds
 -- where the key was there.
 pub record IsOwnPut (contents : Contents) (key value : Bytes) (rows : Option Rows) (old new : List Piece)
-    (bound fresh : ℕ) (was now : Contents → Levels) (half : Option Half) : Type 0 where
+    (deep : ℕ) (was now : Contents → Levels) (half : Option Half) : Type 0 where
   pub shown_is : shown contents (new ++ half_pieces half) ≡ Some (put (slice_cmp nat_cmp) key value (rows_or rows))
   pub others : ArePutAmong contents key value old (new ++ half_pieces half)
-  pub renewed : HasReplaced contents (value_in rows key) value bound fresh was now half
+  pub renewed : HasReplaced contents (value_in rows key) value deep was now half
 
 -- A value is put in the child at a place, which is under this first key.
 pub record IsChildPut (contents : Contents) (copies below place : ℕ) (first key value : Bytes) (rows : Option Rows)

@@ -1,6 +1,7 @@
 -- A key removed below a draft's chunk.
-use Rattle.std.specs.Prelude.{◌≡◌, ◌+◌, ◌-◌, ◌<◌, ◌≤◌, ℕ, Bool, false, nat_le, List, [], ◌∷◌, length, Option, Some}
-use Rattle.std.specs.Prelude.{None, IsSome, slice_get, slice_index_or}
+use Rattle.std.specs.Prelude.{◌≡◌, ◌⊎◌, ◌+◌, ◌-◌, ◌<◌, ◌≤◌, ℕ, zero, suc, Bool, false, nat_le, List, [], ◌∷◌, length}
+use Rattle.std.specs.Prelude.{Option, Some, None, IsSome, slice_get, slice_index_or}
+use mathlib.Core.List.{IsPrefix}
 use Rattle.std.specs.declared.alloc.Global.{Global}
 use Rattle.std.specs.declared.vec.Vec.{Vec}
 use Rattle.group_history.specs.Map.{Bytes, same_text}
@@ -8,16 +9,20 @@ use Rattle.group_history.specs.declared.refs.Ref.{Ref}
 use Rattle.group_history.specs.Refs.{stamp_of}
 use Rattle.group_history.specs.Rows.{Rows, paired}
 use Rattle.group_history.specs.Spelling.{Contents}
-use Rattle.map_chunks.specs.Ends.{IsEnd, IsNoDeeper}
+use Rattle.map_chunks.specs.Ends.{IsEnd}
+use Rattle.map_nodes.specs.Inside.Ends.{EndsAt, NarrowsLater}
 use Rattle.map_nodes.specs.Inside.Freezing.{kids_places}
 use Rattle.map_chunks.specs.Places.{places_of}
 use Rattle.map_nodes.specs.Inside.Halves.{HasDepth}
-use Rattle.map_nodes.specs.Nodes.{kids_fresh, kids_pieces, body_pieces, IsNode}
+use Rattle.map_nodes.specs.Levels.{HasOneMore, Levels, Member, RemovedLater, parting, placed_levels, seen_levels}
+use Rattle.map_nodes.specs.Levels.{topped}
+use Rattle.map_nodes.specs.Nodes.{child_levels, kids_levels, kids_pieces, body_pieces, IsNode}
 use Rattle.map_nodes.specs.Inside.Nodes.{child_rows}
 use Rattle.map_nodes.specs.Inside.Scanning.{kid_shown}
 use Rattle.map_chunks.specs.Search.{IsPlace}
 use Rattle.map_chunks.specs.SecondKeys.{second_key}
-use Rattle.map_chunks.specs.Shown.{shown, chunk_rows, rows_or, IsTree}
+use Rattle.map_chunks.specs.Seeking.{chunk_depth}
+use Rattle.map_chunks.specs.Shown.{Shape, child_keys, leaf_keys, own, shown, chunk_rows, rows_or, IsTree}
 use Rattle.map_nodes.specs.declared.nodes.Body.TheVariants.{Inner}
 use Rattle.map_nodes.specs.declared.nodes.OwnChild.{OwnChild}
 use Rattle.map_nodes.specs.declared.nodes.removing.ChildAfter.{ChildAfter}
@@ -54,6 +59,24 @@ abbrev pub CanRemove : Contents → ℕ → Bytes → OwnChild → Type 0
 CanRemove contents below key c = IsTree (child_rows contents below c) × HasDepth below c
     × (0 < length (without key (rows_or (child_rows contents below c))))
 
+-- a chunk with one entry at most; so many levels below it is a leaf
+abbrev pub IsThin : ℕ → Shape → Type 0
+IsThin zero (leaf_keys keys) = length keys ≤ 1
+IsThin zero (child_keys keys) = ⊥
+IsThin (suc below) (leaf_keys keys) = ⊥
+IsThin (suc below) (child_keys keys) = keys ≡ []
+
+-- one such chunk stands on each of so many levels, and none below
+abbrev pub AreThin : ℕ → Levels → Type 0
+AreThin zero levels = (level : ℕ) → levels level ≡ []
+AreThin (suc below) levels = (chunk : Member) × (levels 0 ≡ chunk ∷ []) × IsThin below chunk.1
+    × AreThin below (λ level. levels (suc level))
+
+-- whatever is placed later, a child so deep has one row at most
+abbrev pub IsThinLater : Contents → ℕ → (Contents → Levels) → Type 0
+IsThinLater contents below levels = (0 < below)
+    × ((later : Contents) → IsPrefix contents later → AreThin below (levels later))
+
 -- a chunk with these keys and children shows rows in order, and the key belongs to the child at this place, which has
 -- this fate
 pub record CanRemoveAt (contents : Contents) (depth : ℕ) (keys : List Bytes) (kids : Vec OwnChild Global) (key : Bytes)
@@ -63,6 +86,12 @@ pub record CanRemoveAt (contents : Contents) (depth : ℕ) (keys : List Bytes) (
   pub place : IsPlace key keys at
   pub fate : (c : OwnChild) → slice_get kids.items at ≡ Some c
       → IsFate key (slice_index_or keys at []) (rows_or (kid_shown contents c)) what
+  pub thin : (c : OwnChild) → slice_get kids.items at ≡ Some c → what ≡ Leaves
+      → IsThinLater contents (depth - 1) (child_levels (depth - 1) c)
+
+-- a leaf has the keys that it had, or one fewer
+abbrev pub IsLeafLeft : List Bytes → List Bytes → Type 0
+IsLeafLeft old new = (new ≡ old) ⊎ HasOneMore new old
 
 -- what children show of which there is at most one
 abbrev pub one_shown : Contents → List OwnChild → Option Rows
@@ -73,7 +102,6 @@ one_shown contents (c ∷ cs) = kid_shown contents c
 abbrev pub IsHeir : Contents → Contents → List OwnChild → NewRoot → Type 0
 IsHeir old new kids (heir.Placed at) = IsEnd new (one_shown old kids) at
 IsHeir old new kids (heir.Own n) = (shown new n.pieces ≡ one_shown old kids) × IsWideChunk n
-    × (n.fresh ≤ kids_fresh kids + 1)
 
 -- a placed heir changes no child
 abbrev pub KeptBy : List OwnChild → List OwnChild → NewRoot → Type 0
@@ -90,12 +118,6 @@ abbrev pub left_rows : Contents → ℕ → List Bytes → List OwnChild → Opt
 left_rows contents depth keys kids None = shown contents (kids_pieces (depth - 1) (paired keys kids))
 left_rows contents depth keys kids (Some (heir.Placed at)) = chunk_rows contents (stamp_of at)
 left_rows contents depth keys kids (Some (heir.Own n)) = shown contents n.pieces
-
--- how many own chunks it is then
-abbrev pub left_fresh : List OwnChild → Option NewRoot → ℕ
-left_fresh kids None = kids_fresh kids + 1
-left_fresh kids (Some (heir.Placed at)) = kids_fresh kids + 1
-left_fresh kids (Some (heir.Own n)) = n.fresh
 
 -- an heir is wide, and a root that has none stays so
 abbrev pub IsWideLeft : Contents → ℕ → ℕ → Option NewRoot → Type 0
@@ -118,11 +140,21 @@ abbrev pub IsFirstAt : Contents → ℕ → List OwnChild → Type 0
 IsFirstAt contents below [] = Unit {0}
 IsFirstAt contents below (c ∷ cs) = HasDepth below c × IsSome (child_rows contents below c)
 
--- what stands in a root's place is at most so deep
-abbrev pub IsLowHeir : Contents → ℕ → NewRoot → Type 0
-IsLowHeir contents depth (heir.Placed at) = IsNoDeeper contents depth at
-IsLowHeir contents depth (heir.Own n) = n.depth ≤ depth
+-- What stands in a root's place: an empty leaf, where the root has no child left; else what its one child has behind
+-- chunks with one child each.
+abbrev pub HeirNarrows : Contents → ℕ → List OwnChild → NewRoot → Type 0
+HeirNarrows contents below [] (heir.Placed at) = ⊥
+HeirNarrows contents below [] (heir.Own n) = (n.depth ≡ 1) × (n.marks ≡ own 0 (leaf_keys []) ∷ [])
+HeirNarrows contents below (c ∷ cs) (heir.Placed at) = EndsAt contents below (child_levels below c) at
+HeirNarrows contents below (c ∷ cs) (heir.Own n) = NarrowsLater contents below n.depth (child_levels below c)
+    (seen_levels n)
 
-abbrev pub IfLowHeir : Contents → ℕ → Option NewRoot → Type 0
-IfLowHeir contents depth None = Unit {0}
-IfLowHeir contents depth (Some h) = IsLowHeir contents depth h
+-- what a removal makes of the chunks of an inner root that was so deep: its heir, if it has one, else its keys and
+-- children
+abbrev pub IsRootLeft : Contents → ℕ → (Contents → Levels) → List Bytes → List OwnChild → Option NewRoot → Type 0
+IsRootLeft contents depth old keys kids None = RemovedLater depth depth contents old
+    (λ p. topped (None, parting keys) (kids_levels (depth - 1) kids p))
+IsRootLeft contents depth old keys kids (Some (heir.Placed at)) = (deep : ℕ)
+    × (chunk_depth contents (stamp_of at) ≡ Some deep)
+    × RemovedLater depth deep contents old (λ p. placed_levels p deep (stamp_of at))
+IsRootLeft contents depth old keys kids (Some (heir.Own n)) = RemovedLater depth n.depth contents old (seen_levels n)

@@ -11,7 +11,6 @@ impl OwnNode {
     pub fn empty(alloc: Global) -> OwnNode
         ensures depth { result.depth ≡ 1 }
         ensures pieces { result.pieces ≡ [] }
-        ensures fresh { result.fresh ≡ 1 }
         ensures marks { result.marks ≡ own 0 (leaf_keys []) ∷ [] }
     {
         OwnNode {

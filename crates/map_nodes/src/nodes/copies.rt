@@ -8,6 +8,7 @@ ghost use Rattle.map_nodes.specs.Inside.Copies.{MayBeDeep, IsCopy};
 ghost use Rattle.map_chunks.specs.Places.{Grows, AreKept, places_of};
 ghost use Rattle.map_chunks.specs.Shown.{shown};
 ghost use Rattle.map_chunks.specs.Wide.{IsWideAt, IsWideChunk};
+ghost use Rattle.map_nodes.specs.Levels.{placed_levels, seen_levels, CopiedLater};
 ghost use Rattle.map_nodes.specs.declared.nodes.OwnChild.TheVariants.{Placed};
 
 use super::{Body, OwnChild, OwnNode};
@@ -32,7 +33,8 @@ impl OwnNode {
         ensures depth { IfOk result (λ n. n.depth ≡ depth) }
         ensures rows { IfOk result (λ n. shown (C.contents chunks.new) n.pieces
             ≡ rows_at (C.contents chunks.old) depth (stamp_of at)) }
-        ensures fresh { IfOk result (λ n. n.fresh ≡ 1) }
+        ensures levels { IfOk result (λ n. CopiedLater (C.contents chunks.new)
+            (λ p. placed_levels p depth (stamp_of at)) (seen_levels n)) }
         ensures places { IfOk result (λ n. AreKept (C.places chunks.new) [] (places_of n.pieces)) }
         ensures wide { IsWideAt (C.contents chunks.new) (stamp_of at) → IfOk result IsWideChunk }
         ensures stopped { IfErr result (λ s. (s ≡ NoMemory) ⊎ C.stops s) }

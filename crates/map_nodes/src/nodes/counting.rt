@@ -1,5 +1,6 @@
 //! How many chunks a draft owns.
 ghost use Rattle.std.specs.Prelude.{◌≡◌, ◌-◌, ◌^◌, min};
+ghost use Rattle.map_chunks.specs.Shown.{fresh};
 ghost use Rattle.map_nodes.specs.Nodes.{child_fresh, kids_fresh};
 
 use super::{Body, OwnChild, OwnNode};
@@ -9,7 +10,7 @@ impl OwnNode {
     /// the largest number.
     #[cycle(counting)]
     pub fn new_chunks(&self) -> u64
-        ensures { result ≡ min self.now.fresh (2 ^ 64 - 1) }
+        ensures { result ≡ min (fresh self.now) (2 ^ 64 - 1) }
     {
         match &self.body {
             Body::Leaf(_) => 1,

@@ -10,7 +10,7 @@ ghost use Rattle.map_chunks.specs.Places.{with_nodes, places_of, IsNamed, AreNam
 ghost use Rattle.map_nodes.specs.Inside.Freezing.{IsFrozen, AreFrozen, IsLevel, AreLevel, child_places, kids_places};
 ghost use Rattle.map_nodes.specs.Nodes.{child_fresh, kids_fresh};
 ghost use Rattle.map_nodes.specs.Levels.{placed_levels, seen_levels, NamedLater};
-ghost use Rattle.map_chunks.specs.Shown.{shown};
+ghost use Rattle.map_chunks.specs.Shown.{fresh, shown};
 ghost use Rattle.map_chunks.specs.Wide.{IsWideAt};
 
 use super::{Body, OwnChild, OwnNode};
@@ -38,8 +38,8 @@ impl OwnNode {
         ensures needed { IfOk result (λ at. AddsNeeded [] (at ∷ []) draft.old draft.new) }
         ensures drafted { IfOk result (λ at. (draft.old.first ≤ stamp_of at) × (slot_of at ≡ 0)) }
         ensures below { IfOk result (λ at. stamp_of at < draft.new.first + length draft.new.nodes) }
-        ensures count { OnOk result (length draft.new.nodes ≡ length draft.old.nodes + self.fresh) }
-        ensures bound { OnErr result (length draft.new.nodes < length draft.old.nodes + self.fresh) }
+        ensures count { OnOk result (length draft.new.nodes ≡ length draft.old.nodes + fresh self) }
+        ensures bound { OnErr result (length draft.new.nodes < length draft.old.nodes + fresh self) }
         ensures first { draft.new.first ≡ draft.old.first }
         ensures grown { IsPrefix draft.old.nodes draft.new.nodes }
         ensures why { IfErr result (λ e. (e ≡ refusal.NoMemory)

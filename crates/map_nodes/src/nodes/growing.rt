@@ -7,7 +7,7 @@ ghost use Rattle.std.specs.Cmp.Lexicographic.{slice_cmp};
 ghost use Rattle.std.specs.FinMap as finite;
 ghost use Rattle.group_history.specs.Rows.{AreKeys, keys_of, paired, values_of};
 ghost use Rattle.map_chunks.specs.Search.{IsAbsent, IsPlace};
-ghost use Rattle.map_nodes.specs.Inside.Counts.{half_fresh, HasKept};
+ghost use Rattle.map_nodes.specs.Inside.Counts.{HasKept};
 ghost use Rattle.map_nodes.specs.Inside.Halves.{half_pieces, IsHalf, IsLower};
 ghost use Rattle.map_nodes.specs.Inside.Laying.{rows_seen, CanGrowOver, IsGrownOver};
 ghost use Rattle.map_nodes.specs.Inside.Puts.{IsLeafPut};
@@ -95,7 +95,6 @@ pub(crate) fn grown_rows(
     ensures half { IfOk result (λ r. IsHalf down.now.copies 1 r.2) }
     ensures leaf { IfOk result (λ r. AreKeys r.0.texts × (length r.1.items ≡ length r.0.texts)
         × (0 < length r.0.texts)) }
-    ensures fresh { IfOk result (λ r. half_fresh r.2 ≤ 1) }
     ensures entries { IfOk result (λ r. HasKept (length leaf.now) (length r.0.texts) r.2) }
     ensures keys { IfOk result (λ r. IsLeafPut (keys_of leaf.now) r.0.texts r.2) }
 {

@@ -4,6 +4,7 @@ ghost use Rattle.group_history.specs.Refs.{stamp_of};
 ghost use Rattle.group_history.specs.Spelling.{rows_at};
 ghost use Rattle.group_history.specs.declared.mutators.Stop.TheVariants.{NoMemory};
 ghost use Rattle.map_chunks.specs.Places.{Grows, AreKept, places_of};
+ghost use Rattle.map_nodes.specs.Levels.{placed_levels, seen_levels, CopiedLater};
 ghost use Rattle.map_chunks.specs.Shown.{shown};
 
 use super::OwnNode;
@@ -48,7 +49,8 @@ impl OwnNode {
         ensures depth { IfOk result (λ n. n.value.depth ≡ depth) }
         ensures rows { IfOk result (λ n. shown (C.contents chunks.new) n.value.pieces
             ≡ rows_at (C.contents chunks.old) depth (stamp_of at)) }
-        ensures fresh { IfOk result (λ n. n.value.fresh ≡ 1) }
+        ensures levels { IfOk result (λ n. CopiedLater (C.contents chunks.new)
+            (λ p. placed_levels p depth (stamp_of at)) (seen_levels n.value)) }
         ensures places { IfOk result (λ n. AreKept (C.places chunks.new) [] (places_of n.value.pieces)) }
         ensures stopped { IfErr result (λ s. (s ≡ NoMemory) ⊎ C.stops s) }
     {

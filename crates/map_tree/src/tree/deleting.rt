@@ -7,8 +7,10 @@ ghost use Rattle.group_history.specs.Refs.{stamp_of};
 ghost use Rattle.group_history.specs.Spelling.{map_at};
 ghost use Rattle.group_history.specs.declared.mutators.Stop.TheVariants.{NoMemory};
 ghost use Rattle.map_chunks.specs.Places.{Grows, AreAll, AreKept};
-ghost use Rattle.map_tree.specs.Trees.{root_places, tree_places, root_map, root_depth, root_fresh, root_or, tree_map};
-ghost use Rattle.map_tree.specs.Trees.{tree_depth, tree_fresh, HasWideRoot, IsWide};
+ghost use Rattle.map_tree.specs.Dels.{IsDel};
+ghost use Rattle.map_tree.specs.Trees.{root_places, tree_places, root_map, root_depth, root_or, tree_map, root_levels};
+ghost use Rattle.map_tree.specs.Trees.{tree_depth, tree_fresh, tree_levels, HasWideRoot, IsWide};
+ghost use Rattle.map_nodes.specs.Levels.{placed_levels, RemovedLater};
 ghost use Rattle.map_chunks.specs.Seeking.{chunk_depth};
 ghost use Rattle.map_chunks.specs.Wide.{IsWideAt};
 
@@ -35,9 +37,9 @@ impl Tree {
         }
     }
 
-    /// Removes a key, if it is there. The chunks on the way to it that are placed are copied first; a
-    /// chunk that has no row then leaves its parent, and a root with one child gives way to it, so the tree
-    /// is no deeper than before. Where it stops, the map is as it was.
+    /// Removes a key, if it is there. New are only the chunks on the way to it. The placed ones are copied first; a
+    /// chunk that has no row then leaves its parent, and a root with one child gives way to it, so the tree is no
+    /// deeper than before. Where it stops, the map is as it was.
     pub fn del<C: Chunks>(&mut self, alloc: Global, chunks: &mut C, key: &str) -> Result<(), Stop>
         requires places { AreAll (C.places chunks.old) (tree_places self.old) }
         requires map { IsSome (tree_map (C.contents chunks.old) self.old) }
@@ -48,6 +50,7 @@ impl Tree {
             → OnOk result (self.new ≡ self.old) }
         ensures few { (d : ℕ) → tree_depth (C.contents chunks.old) self.old ≡ Some d
             → OnOk result (tree_fresh self.new ≤ tree_fresh self.old + d) }
+        ensures levels { OnOk result (IsDel (C.contents chunks.old) (C.contents chunks.new) self.old self.new) }
         ensures deep { (d : ℕ) → tree_depth (C.contents chunks.old) self.old ≡ Some d
             → OnOk result ((e : ℕ) × (tree_depth (C.contents chunks.new) self.new ≡ Some e) × (e ≤ d)) }
         ensures wide { HasWideRoot (C.contents chunks.old) self.old
@@ -77,9 +80,8 @@ impl Tree {
         ensures grown { Grows C.contents C.places chunks.old chunks.new }
         ensures ok { (m : Entries) → tree_map (C.contents chunks.old) self.old ≡ Some m
             → OnOk result (tree_map (C.contents chunks.new) self.new ≡ Some (finite.remove m key.now)) }
-        ensures few { (d : ℕ) → tree_depth (C.contents chunks.old) self.old ≡ Some d
-            → OnOk result (tree_fresh self.new ≤ tree_fresh self.old + d) }
-        ensures deep { OnOk result ((e : ℕ) × (tree_depth (C.contents chunks.new) self.new ≡ Some e) × (e ≤ depth)) }
+        ensures levels { OnOk result ((e : ℕ) × (tree_depth (C.contents chunks.new) self.new ≡ Some e)
+            × RemovedLater depth e (C.contents chunks.new) (tree_levels self.old) (tree_levels self.new)) }
         ensures wide { HasWideRoot (C.contents chunks.old) self.old
             → OnOk result (HasWideRoot (C.contents chunks.new) self.new) }
         ensures places { OnOk result (AreKept (C.places chunks.new) (tree_places self.old) (tree_places self.new)) }
@@ -114,8 +116,8 @@ fn root_without<C: Chunks>(
     ensures grown { Grows C.contents C.places chunks.old chunks.new }
     ensures ok { (m : Entries) → map_at (C.contents chunks.old) (stamp_of at) ≡ Some m
         → IfOk result (λ root. root_map (C.contents chunks.new) root ≡ Some (finite.remove m key.now)) }
-    ensures few { IfOk result (λ root. root_fresh root ≤ depth) }
-    ensures deep { IfOk result (λ root. (e : ℕ) × (root_depth (C.contents chunks.new) root ≡ Some e) × (e ≤ depth)) }
+    ensures levels { IfOk result (λ root. (e : ℕ) × (root_depth (C.contents chunks.new) root ≡ Some e)
+        × RemovedLater depth e (C.contents chunks.new) (λ p. placed_levels p depth (stamp_of at)) (root_levels root)) }
     ensures wide { IsWideAt (C.contents chunks.old) (stamp_of at) → IfOk result (IsWide (C.contents chunks.new)) }
     ensures places { IfOk result (λ root. AreKept (C.places chunks.new) [] (root_places root)) }
     ensures stopped { IfErr result (λ s. (s ≡ NoMemory) ⊎ C.stops s) }

@@ -9,7 +9,9 @@ use commit_graph::{CommitState, LentCommit, Nodes, VecNodes, cookie_of, dropped,
 use group_history::{Json, Mutation, PullOk, Ref, Refusal, Response, Stop, Text};
 use map_tree::{Chunks, Lent, Shelf};
 use pull_patch::read_response;
-use replays::{Setting, add_opening, base_at, draft_rebase, look_at};
+use replays::{
+    Setting, add_opening, add_patched, add_replayed, after_changes, base_at, look_at, run_pending,
+};
 use script_mutators::ScriptMutators;
 use std::alloc::Global;
 use std::marker::Brand;
@@ -101,11 +103,25 @@ fn add_rebased(
         chunks: shelf,
         mutators: &ScriptMutators,
     };
-    let made = draft_rebase::<Shelf<'_>, Brand, ScriptMutators>(
-        &setting, &mut draft, &base, pending, pull,
+    let (confirmed, left) = after_changes(alloc, &base, pending, pull)?;
+    let basis = add_patched::<Shelf<'_>, Brand, ScriptMutators>(
+        &setting,
+        &mut draft,
+        base.pulled,
+        pull,
+        confirmed,
+    )?;
+    let Some(tree) = run_pending::<Shelf<'_>, Brand, ScriptMutators>(
+        &setting, &draft, basis.root, &left,
+    )?
+    else {
+        return Err(Refusal::NoMutator);
+    };
+    let tip = add_replayed::<Shelf<'_>, Brand, ScriptMutators>(
+        &setting, &mut draft, basis, &left, tree,
     )?;
     nodes.append(draft)?;
-    Ok(made.commit)
+    Ok(tip.commit)
 }
 
 /// How many nodes one head leaves behind for another, and how many are shown until that is known.

@@ -143,7 +143,7 @@ _MESSAGES = {
     Why.MOVED: "other clients changed the group first, as often as the call tries: call again",
     Why.BUSY: "a slot or a pin was lost to other clients, as often as the call tries: call again",
     Why.GONE: "a slot was given again while it was looked for: call again",
-    Why.FULL: "no slot is free for the change: close readers, end a pull that confirms, or open a larger group",
+    Why.FULL: "no slot is free for the change: close readers, pull what confirms or clears, or open a larger group",
     Why.STAMPS: "the group has too few stamps left: open a new group",
     Why.STALE: "the client's last id is not the one that the group has: refresh it and call again",
     Why.NO_MUTATOR: "no mutator has this name",

@@ -1,5 +1,5 @@
 use Rattle.std.proofs.Common.{refl, ◌<◌, [], ◌∷◌, ◌++◌, append_assoc, ◌≡◌, ◌∙◌, ◌≤◌, ◌+◌, ◌-◌, ap, sym, subst, arith}
-use Rattle.std.proofs.Common.{length, IfOk, OnOk, Some, inl}
+use Rattle.std.proofs.Common.{length, length-append, List, IfOk, OnOk, Some, inl}
 use Rattle.group_history.specs.declared.nodes.Chunk.TheVariants as chunked
 use Rattle.group_history.specs.declared.nodes.Node.TheVariants as node
 use Rattle.group_history.specs.Naming.{content_of}
@@ -25,8 +25,9 @@ use Rattle.map_nodes.proofs.FreezeLemmas.{frozen-length, frozen-sooner, all-late
 use Rattle.map_nodes.proofs.FreezeLemmas.{high-within}
 use Rattle.map_nodes.proofs.FreezeLevels.{all_level-later, all_level-one, inner_level, leaf_level, placed_level}
 use Rattle.std.specs.List.{Contains}
-use Rattle.map_chunks.proofs.AnswerLemmas.{on_ok}
-use Rattle.map_chunks.specs.Drafts.{AddsNeeded, AreBelow}
+use Rattle.map_chunks.proofs.AnswerLemmas.{on_err, on_ok}
+use Rattle.map_chunks.specs.Drafts.{AddsNeeded, AreBelow, Drafted}
+use Rattle.map_nodes.proofs.CountLemmas.{fresh-inner}
 use Rattle.map_chunks.proofs.DraftLemmas.{pushed-below}
 use Rattle.map_nodes.proofs.BelowLemmas.{kid-below, below-one, inner-below, pushed-grown}
 use Rattle.map_nodes.proofs.NamedLemmas.{adds-none, adds-one, kid-added, kid-named, places-kids, inner-named}
@@ -409,3 +410,37 @@ pub freezing::freeze_kids-returns-in_err-push-clause-grown : goal.freezing::free
 freezing::freeze_kids-returns-in_err-push-clause-grown t c =
     prefix_trans c.args.draft.now.nodes c.loop-kid.draft.nodes c.freeze_kid.new.draft.nodes
     c.loop-kid.invariant.grown c.freeze_kid.ensures.grown
+
+-- COUNTS
+
+one_behind : {A : Type 0} (xs new : List A) (x : A) → new ≡ xs ++ x ∷ [] → length new ≡ length xs + 1
+one_behind xs new x e = omega (arith, ap length e, length-append xs (x ∷ []))
+
+pub OwnNode::freeze-returns-in_err-children-in-Inner-clause-bound :
+    goal.OwnNode::freeze-returns-in_err-children-in-Inner-clause-bound
+OwnNode::freeze-returns-in_err-children-in-Inner-clause-bound t c =
+    let f = fresh-inner c.self.inside.depth c.self.inside.keys.texts c.self.inside.body c.in-Inner.kids c.args.self
+    (ap (λ (s : Seen). s.marks) c.self.view_is) c.in-Inner.is in
+    err_so c.from_residual-in_err-children-in-Inner.result (omega (arith, f, c.in_err-children-in-Inner.ensures.bound))
+
+pub OwnNode::freeze-returns-in-Inner-clause-count : goal.OwnNode::freeze-returns-in-Inner-clause-count
+OwnNode::freeze-returns-in-Inner-clause-count t c =
+    let f = fresh-inner c.self.inside.depth c.self.inside.keys.texts c.self.inside.body c.in-Inner.kids c.args.self
+    (ap (λ (s : Seen). s.marks) c.self.view_is) c.in-Inner.is in
+    on_ok c.push-in-Inner.result c.push-in-Inner.ensures.ok (λ o. omega (
+      arith,
+      f,
+      c.in_ok-children-in-Inner.ensures.count,
+      one_behind _ _ _ (ap (λ (d : Drafted). d.nodes) o),
+    ))
+
+pub OwnNode::freeze-returns-in-Inner-clause-bound : goal.OwnNode::freeze-returns-in-Inner-clause-bound
+OwnNode::freeze-returns-in-Inner-clause-bound t c =
+    let f = fresh-inner c.self.inside.depth c.self.inside.keys.texts c.self.inside.body c.in-Inner.kids c.args.self
+    (ap (λ (s : Seen). s.marks) c.self.view_is) c.in-Inner.is in
+    on_err c.push-in-Inner.result c.push-in-Inner.ensures.err (λ e. omega (
+      arith,
+      f,
+      c.in_ok-children-in-Inner.ensures.count,
+      ap (λ (d : Drafted). length d.nodes) e,
+    ))

@@ -1,6 +1,6 @@
-use Rattle.std.proofs.Common.{◌≡◌, ◌+◌, ◌-◌, ◌++◌, [], ◌∷◌, ◌≤◌, IfErr, IfOk, ℕ, Option, None}
-use Rattle.std.proofs.Common.{length, sym, ap, subst, ◌∙◌, Ok, Some, get_or, set, length-set, slice_get, nat_cmp, T}
-use Rattle.std.proofs.Common.{refl, set-set, arith}
+use Rattle.std.proofs.Common.{◌≡◌, ◌<◌, ◌+◌, ◌-◌, ◌++◌, [], ◌∷◌, ◌≤◌, IfErr, IfOk, ℕ, Option, None, length, sym, ap}
+use Rattle.std.proofs.Common.{subst, ◌∙◌, Ok, Some, get_or, set, length-set, slice_get, nat_cmp, T, refl, set-set}
+use Rattle.std.proofs.Common.{arith}
 use Rattle.std.proofs.lemmas.Bool.{le-leb}
 use Rattle.std.specs.Prelude.{IsSome}
 use Rattle.std.specs.Box.{with_value}
@@ -17,8 +17,8 @@ use Rattle.map_nodes.specs.Changes.{Makes}
 use Rattle.map_nodes.specs.Inside.Freezing.{child_places, kids_places}
 use Rattle.map_nodes.specs.Inside.Halves.{half_pieces, IsHalf, HasDepth, with_half}
 use Rattle.map_nodes.specs.Inside.Halves.{lowered}
-use Rattle.map_nodes.specs.Nodes.{AllKids, IsNode, body_pieces, body_fresh, body_height, kids_pieces, child_fresh}
-use Rattle.map_nodes.specs.Nodes.{kids_fresh, kids_levels, kids_marks, child_levels, sunk, body_marks, row_pieces}
+use Rattle.map_nodes.specs.Nodes.{AllKids, IsNode, body_pieces, body_height, kids_pieces, kids_levels, kids_marks}
+use Rattle.map_nodes.specs.Nodes.{child_levels, sunk, body_marks, row_pieces}
 use Rattle.map_nodes.specs.Inside.Nodes.{Kid, child_rows}
 use Rattle.map_nodes.specs.Inside.Ready.{AreNinthIn, HasRoomIn}
 use Rattle.map_nodes.specs.Others.{ArePutAmong}
@@ -32,7 +32,7 @@ use Rattle.map_nodes.specs.declared.nodes.OwnChild.TheVariants.{Placed, Own}
 use Rattle.map_chunks.proofs.AnswerLemmas.{if_ok_so, on_err, on_ok}
 use Rattle.map_chunks.proofs.JoinLemmas.{some_is}
 use Rattle.map_nodes.proofs.AmongLemmas.{depth_at, inner_among, own_put, placed_put, rows_alone, rows_put}
-use Rattle.map_nodes.proofs.CountLemmas.{fresh-set, leaf_counts, inner_counts}
+use Rattle.map_nodes.proofs.CountLemmas.{leaf_counts}
 use Rattle.map_chunks.proofs.KeptLemmas.{kept-none, kept-from_none}
 use Rattle.map_nodes.proofs.NamedLemmas.{kept-kid, kept-finished, own-places, places-rows}
 use Rattle.map_nodes.proofs.NodeLemmas.{leaf_rows, inner_same, child_at, written_back}
@@ -277,8 +277,8 @@ putting::paths::put_inner-returns-clause-levels g t c later pre =
     put_over later c.args.depth keys
     (keys_of (with_half i c.in_ok-ready.half (paired c.lower_first.new.keys.texts now)))
     c.finish.new.keys.texts c.finish.result (kids_levels (c.args.depth - 1) kids later) c.finish.new.kids.items
-    (values_of (with_half i c.in_ok-ready.half (paired c.lower_first.new.keys.texts now)))
-    (subst (λ ks. ArePut (kids_levels (c.args.depth - 1) kids later)
+    (values_of (with_half i c.in_ok-ready.half (paired c.lower_first.new.keys.texts now))) c.requires.node.1.0
+    (subst (λ ks. ArePut (c.args.depth - 1) (kids_levels (c.args.depth - 1) kids later)
     (kids_levels (c.args.depth - 1) (values_of (with_half i c.in_ok-ready.half (paired ks now))) later)) (sym low)
     (child_put p later c.args.depth keys kids now
     (body_pieces c.args.depth c.args.keys.now.texts (Inner c.args.kids.now)) c.args.put.key.now i child
@@ -295,14 +295,19 @@ putting::paths::put_child-returns-in-Own-clause-levels g t c x h =
     let child = c.index_mut.result.now in
     let n : Kid = with_value c.in-Own.node c.put_below.new.self in
     let q = g.C.Chunks.contents c.put_below.new.chunks in
+    let r = c.requires.tree child (child_at kids c.args.place
+    (length kids) child refl c.requires.within c.index_mut.ensures.value) in
+    let deep : c.in-Own.node.value.depth ≡ c.args.below = subst (HasDepth c.args.below) c.in-Own.is r.1 in
     let e : x ≡ Own c.in-Own.node = indexed_child kids c.args.place child x c.requires.within c.index_mut.ensures.value
     h ∙ c.in-Own.is in
     if_ok_so c.put_below.result c.put_below.ensures.levels (λ put levels. (
       n,
       refl,
-      λ later pre. subst (λ y. ArePut (child_levels c.args.below y later)
+      λ later pre. subst (λ y. ArePut c.args.below (child_levels c.args.below y later)
           (λ i. seen_levels c.put_below.new.self later i ++ half_levels put.1 later i)) (sym e)
-          (subst (λ (s : Seen). HalvesPut q s c.put_below.new.self put.1) c.deref_mut.ensures.value levels later pre),
+          (subst (λ d. ArePut d (seen_levels c.in-Own.node.value later)
+          (λ i. seen_levels c.put_below.new.self later i ++ half_levels put.1 later i)) deep
+          (subst (λ (s : Seen). HalvesPut q s c.put_below.new.self put.1) c.deref_mut.ensures.value levels later pre)),
     ))
 
 pub putting::paths::put_child-returns-in-Placed-clause-levels :
@@ -323,7 +328,7 @@ putting::paths::put_child-returns-in-Placed-clause-levels g t c x h =
     c.index_mut.ensures.value h ∙ c.in-Placed.is in (
       n,
       set-set kids c.args.place (Placed c.in-Placed.at) (Own n),
-      λ later pre. subst (λ y. ArePut (child_levels below y later)
+      λ later pre. subst (λ y. ArePut below (child_levels below y later)
           (λ i. seen_levels n.value later i ++ half_levels half later i)) (sym e) (u.3.levels later pre),
     )
 
@@ -396,8 +401,8 @@ putting::paths::put_child-returns-in-Own-clause-put g t c x h =
           (set kids place (Own n)) y answer.1) (sym e)
           (own_put q copies below place first key put.0 (shown p m.value.pieces) kids m n answer.1 deep
           (c.put_below.ensures.depth ∙ d) filled (subst (λ w. IsHalf copies w answer.1) d half)
-          (subst (λ (s : Seen). IsOwnPut q key put.0 (shown p s.pieces) s.pieces n.value.pieces (s.fresh + s.depth)
-          n.value.fresh (seen_levels s) (seen_levels n.value) answer.1) v put.2)),
+          (subst (λ (s : Seen). IsOwnPut q key put.0 (shown p s.pieces) s.pieces n.value.pieces s.depth
+          (seen_levels s) (seen_levels n.value) answer.1) v put.2)),
     ))
 
 pub putting::paths::put_child-put_placed-requires-clause-may :
@@ -471,12 +476,6 @@ putting::paths::put_child-returns-in-Placed-clause-put g t c x h =
           (set-set kids place (Placed at) (Own n)) u.2 u.3),
     )
 
-pub putting::paths::put_inner-returns-clause-fresh : goal.putting::paths::put_inner-returns-clause-fresh
-putting::paths::put_inner-returns-clause-fresh g t c =
-    let n = inner_counts c.args.depth c.args.keys.now.texts
-    (Inner c.args.kids.now) c.args.kids.now refl c.requires.node in
-    omega (arith, c.finish.ensures.fresh, c.in_ok-ready.ensures.fresh, ap kids_fresh c.reserve.ensures.items, n.0)
-
 pub putting::paths::put_inner-returns-clause-entries : goal.putting::paths::put_inner-returns-clause-entries
 putting::paths::put_inner-returns-clause-entries g t c =
     let keys = c.args.keys.now.texts in
@@ -485,37 +484,6 @@ putting::paths::put_inner-returns-clause-entries g t c =
     (lowered i c.in_ok-ready.ready.lower) c.put_child.ensures.texts) ∙ length-lowered i
     c.in_ok-ready.ready.lower keys in
     subst (λ n. HasKept n (length c.finish.new.keys.texts) c.finish.result) low c.finish.ensures.entries
-
-pub putting::paths::put_child-returns-in-Own-clause-fresh : goal.putting::paths::put_child-returns-in-Own-clause-fresh
-putting::paths::put_child-returns-in-Own-clause-fresh g t c =
-    let kids = c.args.kids.now.items in
-    let child = c.index_mut.result.now in
-    let r = c.requires.tree child (child_at kids c.args.place
-    (length kids) child refl c.requires.within c.index_mut.ensures.value) in
-    let v = c.deref_mut.ensures.value in
-    let d : c.deref_mut.result.now.depth ≡ c.args.below = ap (λ (s : Seen). s.depth) v ∙ subst
-    (HasDepth c.args.below) c.in-Own.is r.1 in
-    let f = fresh-set kids c.args.place child
-    (Own (with_value c.in-Own.node c.put_below.new.self)) c.requires.within c.index_mut.ensures.value in
-    if_ok_so c.put_below.result c.put_below.ensures.fresh
-    (λ put fresh. omega (arith, fresh, f, d, ap (λ (s : Seen). s.fresh) v, ap child_fresh c.in-Own.is))
-
-pub putting::paths::put_child-returns-in-Placed-clause-fresh :
-    goal.putting::paths::put_child-returns-in-Placed-clause-fresh
-putting::paths::put_child-returns-in-Placed-clause-fresh g t c =
-    let p = g.C.Chunks.contents c.args.chunks.now in
-    let kids = c.args.kids.now.items in
-    let child = c.index_mut.result.now in
-    let at = c.in-Placed.at in
-    let n : Kid = c.in_ok-ready-in-Placed.node in
-    let r = c.requires.tree child (child_at kids c.args.place
-    (length kids) child refl c.requires.within c.index_mut.ensures.value) in
-    let tree : IsTree (rows_at p c.args.below (stamp_of at)) =
-    subst (λ y. IsTree (child_rows p c.args.below y)) c.in-Placed.is r.0 in
-    let u = c.in_ok-ready-in-Placed.ensures.put c.args.below (depth_at p c.args.below (stamp_of at) tree) in
-    let f = fresh-set kids c.args.place child (Own n) c.requires.within c.index_mut.ensures.value in
-    let twice = ap kids_fresh (set-set kids c.args.place (Placed at) (Own n)) in
-    omega (arith, u.3.few, f, twice, ap child_fresh c.in-Placed.is)
 
 pub putting::paths::put_child-returns-in-Own-clause-err : goal.putting::paths::put_child-returns-in-Own-clause-err
 putting::paths::put_child-returns-in-Own-clause-err g t c =
@@ -618,7 +586,6 @@ OwnNode::put-returns-in-Leaf-clause-put g t c =
     let new = row_pieces (paired c.put_leaf.new.keys.texts c.put_leaf.new.values.items) in
     let was = leaf_rows p depth keys body values c.args.self.now.pieces view c.in-Leaf.is in
     let pieces_are : c.args.self.now.pieces ≡ row_pieces rows = sym view ∙ ap (body_pieces depth keys) c.in-Leaf.is in
-    let n = leaf_counts depth keys body values c.in-Leaf.is c.self.invariant in
     if_ok_so c.put_leaf.result c.put_leaf.ensures.put (λ half put.
     let u = rows_put p key put.0 rows c.args.self.now.pieces new half pieces_are put.2 in (
       put.0,
@@ -631,16 +598,10 @@ OwnNode::put-returns-in-Leaf-clause-put g t c =
             let r = put.3 (subst (λ z. IsSome (value_in z key)) was there) in (
               λ same. r.0 (ap (λ z. value_in z key) (sym was) ∙ same),
               r.2,
-              omega (
-                arith,
-                n.0,
-                n.1,
-                ap (λ (s : Seen). s.depth) c.self.view_is,
-                ap (λ (s : Seen). s.fresh) c.self.view_is,
-              ),
-              subst (λ ks. RenewedLater p (seen_levels c.args.self.now) (λ q. levels_of q (own 0 (leaf_keys ks) ∷ [])))
-                  (sym r.1) (leaf_kept-levels p depth keys body values c.args.self.now (ap (λ (s : Seen). s.marks)
-                  c.self.view_is) c.in-Leaf.is),
+              subst (λ ks. RenewedLater p c.args.self.now.depth (seen_levels c.args.self.now)
+                  (λ q. levels_of q (own 0 (leaf_keys ks) ∷ [])))
+                  (sym r.1) (leaf_kept-levels p c.args.self.now.depth depth keys body values c.args.self.now
+                  (ap (λ (s : Seen). s.marks) c.self.view_is) c.in-Leaf.is),
             );
       },
     ))
@@ -650,21 +611,7 @@ OwnNode::put-returns-in-Leaf-clause-half g t c =
     let n = leaf_counts c.self.inside.depth c.self.inside.keys.texts c.self.inside.body c.in-Leaf.values c.in-Leaf.is
     c.self.invariant in
     subst (λ d. IfOk c.put_leaf.result (IsHalf c.args.put.copies d))
-    (sym n.0 ∙ ap (λ (s : Seen). s.depth) c.self.view_is) c.put_leaf.ensures.half
-
-pub OwnNode::put-returns-in-Leaf-clause-fresh : goal.OwnNode::put-returns-in-Leaf-clause-fresh
-OwnNode::put-returns-in-Leaf-clause-fresh g t c =
-    let n = leaf_counts c.self.inside.depth c.self.inside.keys.texts c.self.inside.body c.in-Leaf.values c.in-Leaf.is
-    c.self.invariant in
-    if_ok_so c.put_leaf.result c.put_leaf.ensures.fresh
-    (λ half fresh. omega (
-      arith,
-      fresh,
-      n.0,
-      n.1,
-      ap (λ (s : Seen). s.depth) c.self.view_is,
-      ap (λ (s : Seen). s.fresh) c.self.view_is,
-    ))
+    (sym n ∙ ap (λ (s : Seen). s.depth) c.self.view_is) c.put_leaf.ensures.half
 
 pub OwnNode::put-returns-in-Leaf-clause-entries : goal.OwnNode::put-returns-in-Leaf-clause-entries
 OwnNode::put-returns-in-Leaf-clause-entries g t c =
@@ -738,7 +685,7 @@ OwnNode::put-returns-in-Inner-clause-put g t c =
     let view = ap (body_pieces depth keys) (sym c.in-Inner.is) ∙ ap (λ (s : Seen). s.pieces) c.self.view_is in
     let was = ap (body_marks depth keys) (sym c.in-Inner.is) ∙ ap (λ (s : Seen). s.marks) c.self.view_is in
     let new = body_pieces depth texts (Inner c.put_inner.new.kids) in
-    let n = inner_counts depth keys c.self.inside.body c.in-Inner.kids c.in-Inner.is c.self.invariant in
+    let here = ap (λ (s : Seen). s.depth) c.self.view_is in
     if_ok_so c.put_inner.result c.put_inner.ensures.put (λ half put. (
       put.0,
       subst (λ ps. Makes (λ f there made. g.F.FnOnce.post f (there, tt) made) c.args.change
@@ -751,21 +698,20 @@ OwnNode::put-returns-in-Inner-clause-put g t c =
             let u = put.2.renewed (subst (λ ps. IsSome (value_in (shown p ps) key)) (sym view) there) in (
               λ same. u.0 (ap (λ ps. value_in (shown p ps) key) view ∙ same),
               u.1,
-              omega (
-                arith,
-                u.2,
-                n.1,
-                ap (λ (s : Seen). s.depth) c.self.view_is,
-                ap (λ (s : Seen). s.fresh) c.self.view_is,
-              ),
-              λ later pre level. subst (λ ms. AreChanged IsRenewed (levels_of later ms level)
+              λ later pre level. subst (λ ms. AreChanged (level < c.args.self.now.depth) IsRenewed
+                  (levels_of later ms level)
                   (levels_of later (own 0 (parting texts) ∷ sunk (kids_marks (depth - 1) now)) level)) was
-                  (changed_as IsRenewed (topped (None, parting keys) (kids_levels (depth - 1) kids later) level)
+                  (changed_as (level < c.args.self.now.depth) IsRenewed
+                  (topped (None, parting keys) (kids_levels (depth - 1) kids later) level)
                   (topped (None, parting texts) (kids_levels (depth - 1) now later) level)
                   (levels_of later (own 0 (parting keys) ∷ sunk (kids_marks (depth - 1) kids)) level)
                   (levels_of later (own 0 (parting texts) ∷ sunk (kids_marks (depth - 1) now)) level)
                   (inner-levels later (depth - 1) (parting keys) kids level)
-                  (inner-levels later (depth - 1) (parting texts) now level) (u.3 later pre level)),
+                  (inner-levels later (depth - 1) (parting texts) now level)
+                  (subst (λ d. AreChanged (level < d) IsRenewed
+                  (topped (None, parting keys) (kids_levels (depth - 1) kids later) level)
+                  (topped (None, parting texts) (kids_levels (depth - 1) now later) level)) here
+                  (u.2 later pre level))),
             );
       },
     ))
@@ -783,19 +729,6 @@ OwnNode::put-returns-in-Inner-clause-places g t c =
     subst (λ ps. IfOk c.put_inner.result (λ half. AreKept at_q (places_of ps) (places_of (new ++ half_pieces half))))
     view c.put_inner.ensures.places
 
-pub OwnNode::put-returns-in-Inner-clause-fresh : goal.OwnNode::put-returns-in-Inner-clause-fresh
-OwnNode::put-returns-in-Inner-clause-fresh g t c =
-    let n = inner_counts c.self.inside.depth c.self.inside.keys.texts c.self.inside.body c.in-Inner.kids c.in-Inner.is
-    c.self.invariant in
-    if_ok_so c.put_inner.result c.put_inner.ensures.fresh
-    (λ half fresh. omega (
-      arith,
-      fresh,
-      n.1,
-      ap (λ (s : Seen). s.depth) c.self.view_is,
-      ap (λ (s : Seen). s.fresh) c.self.view_is,
-    ))
-
 pub OwnNode::put-returns-in-Inner-clause-entries : goal.OwnNode::put-returns-in-Inner-clause-entries
 OwnNode::put-returns-in-Inner-clause-entries g t c =
     subst (λ n. IfOk c.put_inner.result (HasKept n (length c.put_inner.new.keys.texts)))
@@ -809,7 +742,6 @@ OwnNode::put-returns-in-Inner-clause-err g t c =
       entries = length c.self.inside.keys.texts;
       pieces = body_pieces depth c.self.inside.keys.texts b;
       height = body_height b;
-      fresh = body_fresh b;
       marks = body_marks depth c.self.inside.keys.texts b;
     } in
     on_err c.put_inner.result c.put_inner.ensures.err
@@ -822,10 +754,14 @@ OwnNode::put-returns-in-Leaf-clause-levels g t c =
     let texts = c.put_leaf.new.keys.texts in
     let was = ap (body_marks c.self.inside.depth keys) (sym c.in-Leaf.is) ∙ ap (λ (s : Seen). s.marks)
     c.self.view_is in
+    let n = leaf_counts c.self.inside.depth keys c.self.inside.body c.in-Leaf.values c.in-Leaf.is c.self.invariant in
     if_ok_both c.put_leaf.result c.put_leaf.ensures.keys c.put_leaf.ensures.entries (λ half put kept later pre.
-    subst (λ ms. ArePut (levels_of later ms)
+    subst (λ d. ArePut d (seen_levels c.args.self.now later)
+    (λ i. levels_of later (own 0 (leaf_keys texts) ∷ []) i ++ half_levels half later i))
+    (sym n ∙ ap (λ (s : Seen). s.depth) c.self.view_is)
+    (subst (λ ms. ArePut 1 (levels_of later ms)
     (λ i. levels_of later (own 0 (leaf_keys texts) ∷ []) i ++ half_levels half later i)) was
-    (leaf_put_levels later keys texts half kept put))
+    (leaf_put_levels later keys texts half kept put)))
 
 pub OwnNode::put-returns-in-Inner-clause-levels : goal.OwnNode::put-returns-in-Inner-clause-levels
 OwnNode::put-returns-in-Inner-clause-levels g t c =
@@ -836,16 +772,19 @@ OwnNode::put-returns-in-Inner-clause-levels g t c =
     let now = c.put_inner.new.kids.items in
     let was = ap (body_marks depth keys) (sym c.in-Inner.is) ∙ ap (λ (s : Seen). s.marks) c.self.view_is in
     if_ok_so c.put_inner.result c.put_inner.ensures.levels (λ half put later pre.
-    subst (λ ms. ArePut (levels_of later ms)
+    subst (λ d. ArePut d (seen_levels c.args.self.now later)
+    (λ i. levels_of later (own 0 (parting texts) ∷ sunk (kids_marks (depth - 1) now)) i ++ half_levels half later i))
+    (ap (λ (s : Seen). s.depth) c.self.view_is)
+    (subst (λ ms. ArePut depth (levels_of later ms)
     (λ i. levels_of later (own 0 (parting texts) ∷ sunk (kids_marks (depth - 1) now)) i ++ half_levels half later i))
     was
-    (put_as (topped (None, parting keys) (kids_levels (depth - 1) kids later))
+    (put_as depth (topped (None, parting keys) (kids_levels (depth - 1) kids later))
     (λ i. topped (None, parting texts) (kids_levels (depth - 1) now later) i ++ half_levels half later i)
     (levels_of later (own 0 (parting keys) ∷ sunk (kids_marks (depth - 1) kids)))
     (λ i. levels_of later (own 0 (parting texts) ∷ sunk (kids_marks (depth - 1) now)) i ++ half_levels half later i)
     (inner-levels later (depth - 1) (parting keys) kids)
     (λ i. ap (λ w. w ++ half_levels half later i) (inner-levels later (depth - 1) (parting texts) now i))
-    (put later pre)))
+    (put later pre))))
 
 -- WHY IT ISN'T PUT
 

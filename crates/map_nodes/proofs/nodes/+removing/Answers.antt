@@ -1,5 +1,5 @@
-use Rattle.std.proofs.Common.{◌≡◌, ◌<◌, ◌-◌, ◌∙◌, Some, OnOk, ap, sym, subst, arith, refl, length, set-set}
-use Rattle.std.proofs.Common.{remove, []}
+use Rattle.std.proofs.Common.{◌≡◌, ◌<◌, ◌-◌, ◌∙◌, Some, OnOk, ap, sym, subst, arith, refl, get_or, length, set-set}
+use Rattle.std.proofs.Common.{remove, [], ◌∷◌}
 use Rattle.std.specs.Prelude.{IsSome}
 use Rattle.std.specs.Box.{with_value}
 use Rattle.group_history.specs.Refs.{stamp_of}
@@ -8,12 +8,12 @@ use Rattle.group_history.specs.Spelling.{rows_at}
 use Rattle.map_chunks.specs.Places.{AreAll, AreKept, places_of}
 use Rattle.map_nodes.specs.Inside.Freezing.{child_places, kids_places}
 use Rattle.map_nodes.specs.Inside.Halves.{lowered}
-use Rattle.map_nodes.specs.Nodes.{child_fresh, kids_fresh, kids_pieces, row_pieces, IsNode}
+use Rattle.map_nodes.specs.Nodes.{kids_pieces, row_pieces, IsNode, body_marks, child_levels, kids_marks, sunk}
 use Rattle.map_nodes.specs.Inside.Nodes.{Kid, child_rows}
 use Rattle.map_nodes.specs.Removing.{without}
-use Rattle.map_nodes.specs.Inside.Removing.{CanRemove}
+use Rattle.map_nodes.specs.Inside.Removing.{CanRemove, HasOthers}
 use Rattle.map_chunks.specs.Search.{IsPlace}
-use Rattle.map_chunks.specs.Shown.{Seen, shown, rows_or, IsTree}
+use Rattle.map_chunks.specs.Shown.{Seen, shown, rows_or, IsTree, leaf_keys, own}
 use Rattle.map_nodes.specs.declared.nodes.Body.TheVariants.{Inner}
 use Rattle.map_nodes.specs.declared.nodes.OwnChild.{OwnChild}
 use Rattle.map_nodes.specs.declared.nodes.OwnChild.TheVariants.{Placed, Own}
@@ -25,8 +25,14 @@ use Rattle.map_nodes.proofs.NamedLemmas.{kept-child, own-places, places-kids, pl
 use Rattle.map_nodes.proofs.NodeLemmas.{leaf_rows, shown-rows, child_at, node_down, written_back}
 use Rattle.map_chunks.proofs.OpenLemmas.{known}
 use Rattle.map_nodes.proofs.PathLemmas.{indexed_child}
-use Rattle.map_nodes.proofs.RemoveLemmas.{can_at, fate_down, fresh-removed, gone_at, stays_at, stays_few}
-use Rattle.map_nodes.proofs.RemoveLemmas.{shown_later}
+use Rattle.map_nodes.proofs.RemoveLemmas.{can_at, fate_down, gone_at, stays_at, shown_later, fate_thin}
+use Rattle.group_history.proofs.Lists.{prefix_trans}
+use Rattle.map_chunks.proofs.SearchLemmas.{got}
+use Rattle.map_nodes.proofs.CountLemmas.{leaf_counts}
+use Rattle.map_nodes.proofs.LevelLemmas.{inner-levels}
+use Rattle.map_nodes.proofs.RemoveLevels.{copied_deep, inner_seen_levels, leaf_left, over_gone, over_stays, shrunk_as}
+use Rattle.map_nodes.proofs.RemoveLevels.{shrunk_copied}
+use Rattle.map_nodes.specs.Levels.{levels_of, parting, placed_levels, seen_levels, AreShrunk, ShrunkLater}
 use Rattle.map_nodes.proofs.ScanLemmas.{kid_shown-at}
 use Rattle.map_nodes.proofs.PlaceLemmas.{down_may, kid_all, kids_may, own_may, placed_may, new_may}
 use Rattle.map_nodes.proofs.nodes.+removing.Goals as goal
@@ -91,6 +97,10 @@ OwnNode::remove-remove_at-requires g t c κs within =
                 place = subst (λ w. IsPlace c.args.key.now w c.place_of-place.result) c.as_slice-texts.ensures
                     c.place_of-place.ensures;
                 fate = known.0;
+                thin = fate_thin p q depth keys c.as_slice-texts.result.now c.self.inside.body kids pieces
+                    c.args.key.now c.place_of-place.result c.index.result.now c.in_ok-fate-in-Inner.fate view
+                    c.in-Inner.is c.self.invariant c.as_slice-texts.ensures c.place_of-place.ensures c.index.ensures r.0
+                    (c.in_ok-fate-in-Inner.ensures.thin (depth - 1));
               },
               known.1,
             ),
@@ -131,18 +141,6 @@ removing::paths::remove_at-returns-in-Leaves-clause-done g t c =
     c.args.kids.now c.remove_entry.new.entries.items way.key.now way.place (Placed (record { bits = 0 }))
     way.fate can.node can.tree can.place can.fate c.requires.others c.in-Leaves.is
     c.in_ok-remove_entry-in-Leaves.ensures.ok.0 c.in_ok-remove_entry-in-Leaves.ensures.ok.1).shown_is
-
-pub removing::paths::remove_at-returns-in-Leaves-clause-few :
-    goal.removing::paths::remove_at-returns-in-Leaves-clause-few
-removing::paths::remove_at-returns-in-Leaves-clause-few g t c =
-    let can = c.requires.can in
-    let way = c.args.removal in
-    omega (
-      arith,
-      fresh-removed c.args.kids.now.items way.place,
-      ap kids_fresh c.in_ok-remove_entry-in-Leaves.ensures.ok.1,
-      can.node.1.0,
-    )
 
 pub removing::paths::remove_at-remove_child-requires : goal.removing::paths::remove_at-remove_child-requires
 removing::paths::remove_at-remove_child-requires g t c κs within =
@@ -190,17 +188,6 @@ removing::paths::remove_at-returns-in-Stays-clause-done g t c =
     (c.set_first.ensures ∙ ap (lowered way.place c.in-Stays.first) c.make_ready.ensures.texts)
     c.in_ok-remove_child-in-Stays.ensures.done).shown_is
 
-pub removing::paths::remove_at-returns-in-Stays-clause-few : goal.removing::paths::remove_at-returns-in-Stays-clause-few
-removing::paths::remove_at-returns-in-Stays-clause-few g t c =
-    let can = c.requires.can in
-    let way = c.args.removal in
-    let below = c.args.depth - 1 in
-    let fact = stays_few (g.C.Chunks.contents c.remove_child.new.chunks) c.args.depth c.args.kids.now.items
-    c.remove_child.new.kids.items way.place (Placed (record { bits = 0 }))
-    (λ x. Some (without way.key.now (rows_or (child_rows (g.C.Chunks.contents c.args.chunks.now) below x))))
-    (omega (arith, can.place.0, can.node.1.2)) can.node.1.0 c.in_ok-remove_child-in-Stays.ensures.done in
-    omega (arith, fact)
-
 pub removing::paths::remove_child-remove-requires : goal.removing::paths::remove_child-remove-requires
 removing::paths::remove_child-remove-requires g t c κs within =
     let may = g.C.Chunks.places c.args.chunks.now in
@@ -242,13 +229,16 @@ removing::paths::remove_child-returns-in-Own-clause-done g t c x h =
     let n : Kid = with_value c.in-Own.node c.remove.new.self in
     let e : x ≡ Own c.in-Own.node = indexed_child kids c.args.place child x r.0 c.index_mut.ensures.value h
     ∙ c.in-Own.is in
-    both_ok c.remove.result c.remove.ensures.done c.remove.ensures.few (λ s f. (
+    let q = g.C.Chunks.contents c.remove.new.chunks in
+    both_ok c.remove.result c.remove.ensures.done c.remove.ensures.levels (λ s l. (
       n,
       refl,
       c.remove.ensures.depth ∙ ap (λ (s : Seen). s.depth) v ∙ can.1,
       s ∙ ap (λ (m : Seen). Some (without c.args.key.now (rows_or (shown p m.pieces)))) v ∙ ap
           (λ y. Some (without c.args.key.now (rows_or (child_rows p c.args.below y)))) (sym e),
-      omega (arith, f, can.1, ap (λ (s : Seen). s.depth) v, ap (λ (s : Seen). s.fresh) v, ap child_fresh e),
+      subst (λ y. ShrunkLater q c.args.below (child_levels c.args.below y) (seen_levels c.remove.new.self)) (sym e)
+          (subst (λ d. ShrunkLater q d (seen_levels c.in-Own.node.value) (seen_levels c.remove.new.self)) can.1
+          (subst (λ (s : Seen). ShrunkLater q s.depth (seen_levels s) (seen_levels c.remove.new.self)) v l)),
     ))
 
 pub removing::paths::remove_child-copied_child-requires-clause-place :
@@ -323,14 +313,19 @@ removing::paths::remove_child-returns-in-Placed-clause-done g t c x h =
           ∙ ap (λ z. Some (without c.args.key.now (rows_or z)))
           (ap (λ (s : Seen). shown q s.pieces) v ∙ c.in_ok-node-in-Placed.ensures.rows ∙ ap
           (child_rows p c.args.below) (sym e)),
-      omega (
-        arith,
-        c.in_ok-remove-in-Placed.ensures.few,
-        ap (λ (s : Seen). s.depth) v,
-        ap (λ (s : Seen). s.fresh) v,
-        c.in_ok-node-in-Placed.ensures.fresh,
-        c.in_ok-node-in-Placed.ensures.depth,
-      ),
+      λ later pre. subst (λ y. AreShrunk c.args.below (child_levels c.args.below y later)
+          (seen_levels c.remove-in-Placed.new.self later)) (sym e)
+          (shrunk_copied c.args.below (placed_levels later c.args.below (stamp_of c.in-Placed.at))
+          (seen_levels c.in_ok-node-in-Placed.node.value later) (seen_levels c.remove-in-Placed.new.self later)
+          (copied_deep p c.args.below (stamp_of c.in-Placed.at) (subst (CanRemove p c.args.below c.args.key.now)
+          c.in-Placed.is
+          (r.1 child (child_at kids c.args.place (length kids) child refl r.0 c.index_mut.ensures.value))).0)
+          (c.in_ok-node-in-Placed.ensures.levels later
+          (prefix_trans q _ later c.remove-in-Placed.ensures.grown.0 pre))
+          (subst (λ d. AreShrunk d (seen_levels c.in_ok-node-in-Placed.node.value later)
+          (seen_levels c.remove-in-Placed.new.self later)) c.in_ok-node-in-Placed.ensures.depth
+          (subst (λ (s : Seen). AreShrunk s.depth (seen_levels s later) (seen_levels c.remove-in-Placed.new.self later))
+          v (c.in_ok-remove-in-Placed.ensures.levels later pre)))),
     )
 
 pub removing::paths::remove_child-returns-in-Own-clause-err :
@@ -421,3 +416,59 @@ pub removing::paths::remove_child-returns-in_err-remove-in-Placed-clause-grown :
 removing::paths::remove_child-returns-in_err-remove-in-Placed-clause-grown g t c =
     grows_on g.C.Chunks.contents g.C.Chunks.places _ _ _ c.copied_child.ensures.grown
     c.remove-in-Placed.ensures.grown
+
+-- LEVELS
+
+pub OwnNode::remove-returns-in-Leaf-clause-levels : goal.OwnNode::remove-returns-in-Leaf-clause-levels
+OwnNode::remove-returns-in-Leaf-clause-levels g t c later pre =
+    let keys = c.self.inside.keys.texts in
+    let nk = c.remove_row.new.keys.texts in
+    let old = ap (body_marks c.self.inside.depth keys) (sym c.in-Leaf.is) ∙ ap (λ (s : Seen). s.marks) c.self.view_is in
+    let n = leaf_counts c.self.inside.depth keys c.self.inside.body c.in-Leaf.values c.in-Leaf.is c.self.invariant in
+    subst (λ d. AreShrunk d (seen_levels c.args.self.now later) (levels_of later (own 0 (leaf_keys nk) ∷ [])))
+    (sym n ∙ ap (λ (s : Seen). s.depth) c.self.view_is)
+    (subst (λ m. AreShrunk 1 (levels_of later m) (levels_of later (own 0 (leaf_keys nk) ∷ []))) old
+    (leaf_left later keys nk c.in_ok-remove_row-in-Leaf.ensures.left))
+
+pub OwnNode::remove-returns-in-Inner-clause-levels : goal.OwnNode::remove-returns-in-Inner-clause-levels
+OwnNode::remove-returns-in-Inner-clause-levels g t c =
+    let depth = c.self.inside.depth in
+    let nk = c.remove_at.new.keys.texts in
+    let ne = c.remove_at.new.kids.items in
+    on_ok c.remove_at.result c.remove_at.ensures.levels (λ l later pre.
+    subst (λ d. AreShrunk d (seen_levels c.args.self.now later)
+    (levels_of later (own 0 (parting nk) ∷ sunk (kids_marks (depth - 1) ne)))) (ap (λ (s : Seen). s.depth)
+    c.self.view_is)
+    (shrunk_as depth _ _ (seen_levels c.args.self.now later)
+    (levels_of later (own 0 (parting nk) ∷ sunk (kids_marks (depth - 1) ne)))
+    (inner_seen_levels later depth c.self.inside.keys.texts c.self.inside.body c.in-Inner.kids c.args.self.now
+    (ap (λ (s : Seen). s.marks) c.self.view_is) c.in-Inner.is)
+    (inner-levels later (depth - 1) (parting nk) ne) (l later pre)))
+
+pub removing::paths::remove_at-returns-in-Leaves-clause-levels :
+    goal.removing::paths::remove_at-returns-in-Leaves-clause-levels
+removing::paths::remove_at-returns-in-Leaves-clause-levels g t c later pre =
+    let can = c.requires.can in
+    let way = c.args.removal in
+    let kids = c.args.kids.now.items in
+    let x = get_or kids way.place (Placed (record { bits = 0 })) in
+    let here = got kids way.place (Placed (record { bits = 0 })) (omega (arith, can.place.0, can.node.1.2)) in
+    over_gone later c.args.depth can.node.1.0 c.args.keys.now.texts c.remove_entry.new.keys.texts kids
+    c.remove_entry.new.entries.items way.place x can.place.0
+    (subst (λ w. HasOthers w (length c.args.keys.now.texts)) c.in-Leaves.is c.requires.others)
+    c.in_ok-remove_entry-in-Leaves.ensures.ok.0 c.in_ok-remove_entry-in-Leaves.ensures.ok.1 here
+    ((can.thin x here c.in-Leaves.is).1 later pre)
+
+pub removing::paths::remove_at-returns-in-Stays-clause-levels :
+    goal.removing::paths::remove_at-returns-in-Stays-clause-levels
+removing::paths::remove_at-returns-in-Stays-clause-levels g t c later pre =
+    let can = c.requires.can in
+    let way = c.args.removal in
+    let kids = c.args.kids.now.items in
+    let x = get_or kids way.place (Placed (record { bits = 0 })) in
+    let here = got kids way.place (Placed (record { bits = 0 })) (omega (arith, can.place.0, can.node.1.2)) in
+    let done = c.in_ok-remove_child-in-Stays.ensures.done x here in
+    over_stays later c.args.depth can.node.1.0 c.args.keys.now.texts c.set_first.new.keys.texts kids
+    c.remove_child.new.kids.items way.place x (Own done.0) c.in-Stays.first can.place.0
+    (c.set_first.ensures ∙ ap (lowered way.place c.in-Stays.first) c.make_ready.ensures.texts) done.1 here
+    (done.4 later pre)

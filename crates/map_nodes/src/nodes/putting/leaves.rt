@@ -11,7 +11,7 @@ ghost use Rattle.map_nodes.specs.Changes.{CanMake, Makes};
 ghost use Rattle.map_nodes.specs.Nodes.{row_pieces};
 ghost use Rattle.map_chunks.specs.Search.{IsAbsent, IsFound};
 ghost use Rattle.map_nodes.specs.Inside.Halves.{half_pieces, IsHalf, AreNinth};
-ghost use Rattle.map_nodes.specs.Inside.Counts.{half_fresh, HasKept};
+ghost use Rattle.map_nodes.specs.Inside.Counts.{HasKept};
 ghost use Rattle.map_nodes.specs.Inside.Ready.{HasRoom};
 ghost use Rattle.map_nodes.specs.Inside.Puts.{HasReplacedRow, IsLeafPut};
 ghost use Rattle.map_nodes.specs.Inside.Unput.{IsUnput};
@@ -76,7 +76,6 @@ pub(crate) fn put_leaf<F: FnOnce(Option<Json>) -> Result<Update, Stop>>(
     ensures half { IfOk result (IsHalf put.entry.copies 1) }
     ensures leaf { OnOk result (AreKeys keys.new.texts × (length values.new.items ≡ length keys.new.texts)
         × (0 < length keys.new.texts)) }
-    ensures fresh { IfOk result (λ half. half_fresh half ≤ 1) }
     ensures entries { IfOk result (HasKept (length keys.old.texts) (length keys.new.texts)) }
     ensures keys { IfOk result (IsLeafPut keys.old.texts keys.new.texts) }
     ensures err { OnErr result ((keys.new.texts ≡ keys.old.texts) × (values.new.items ≡ values.old.items)) }
@@ -123,7 +122,6 @@ fn put_row(
     ensures half { IfOk result (IsHalf put.entry.copies 1) }
     ensures leaf { OnOk result (AreKeys keys.new.texts × (length values.new.items ≡ length keys.new.texts)
         × (0 < length keys.new.texts)) }
-    ensures fresh { IfOk result (λ half. half_fresh half ≤ 1) }
     ensures entries { IfOk result (HasKept (length keys.old.texts) (length keys.new.texts)) }
     ensures keys { IfOk result (IsLeafPut keys.old.texts keys.new.texts) }
     ensures renewed { IfOk result (HasReplacedRow (finite.find (slice_cmp nat_cmp) put.entry.key.now
@@ -165,7 +163,6 @@ pub(crate) fn insert_row(
     ensures half { IfOk result (IsHalf put.entry.copies 1) }
     ensures leaf { IfOk result (λ half. AreKeys keys.new.texts × (length values.new.items ≡ length keys.new.texts)
         × (0 < length keys.new.texts)) }
-    ensures fresh { IfOk result (λ half. half_fresh half ≤ 1) }
     ensures entries { IfOk result (HasKept (length keys.old.texts) (length keys.new.texts)) }
     ensures keys { IfOk result (IsLeafPut keys.old.texts keys.new.texts) }
     ensures err { OnErr result ((keys.new.texts ≡ keys.old.texts) × (values.new.items ≡ values.old.items)) }
@@ -195,7 +192,6 @@ fn settle_row(
         → IsHalf copies 1 result }
     ensures leaf { AreKeys keys.new.texts × (length values.new.items ≡ length keys.new.texts)
         × (0 < length keys.new.texts) }
-    ensures fresh { half_fresh result ≤ 1 }
     ensures entries { HasKept (length keys.old.texts) (length keys.new.texts) result }
     ensures keys { IsLeafPut keys.old.texts keys.new.texts result }
 {

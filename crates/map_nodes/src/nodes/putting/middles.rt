@@ -3,9 +3,8 @@ ghost use Rattle.std.specs.Prelude.{◌≡◌, ℕ, ◌<◌, ◌≤◌, ◌+◌,
 ghost use Rattle.std.specs.Prelude.{vec_capacity};
 ghost use Rattle.group_history.specs.Map.{Bytes};
 ghost use Rattle.group_history.specs.Rows.{keys_of, paired, values_of};
-ghost use Rattle.map_nodes.specs.Nodes.{kids_fresh};
 ghost use Rattle.map_nodes.specs.Inside.Halves.{IsHalf, with_half, lowered, Finished};
-ghost use Rattle.map_nodes.specs.Inside.Counts.{half_fresh, HasKept};
+ghost use Rattle.map_nodes.specs.Inside.Counts.{HasKept};
 ghost use Rattle.map_nodes.specs.Inside.Ready.{AreNinthIn, HasRoomIn, Fits};
 ghost use Rattle.map_nodes.specs.Inside.Puts.{IsHalved};
 
@@ -51,7 +50,6 @@ pub(crate) fn finish(
     ensures half { (copies : ℕ) → IsHalf (copies + 1) (depth - 1) half
         → (IsSome half → (key : Bytes) → (place + 1 ≡ 8 → ⊥)
         → AreNinthIn copies keys.old.texts (place + 1) key room) → IsHalf copies depth result }
-    ensures fresh { kids_fresh kids.new.items + half_fresh result ≤ kids_fresh kids.old.items + half_fresh half + 1 }
     ensures entries { HasKept (length keys.old.texts) (length keys.new.texts) result }
     ensures parted { IsHalved depth keys.new.texts kids.new.items result
         (keys_of (with_half place half (paired keys.old.texts kids.old.items)))

@@ -15,12 +15,12 @@ ghost use Rattle.map_nodes.specs.Inside.Freezing.{kids_places};
 ghost use Rattle.map_chunks.specs.Search.{IsPlace};
 ghost use Rattle.map_chunks.specs.Shown.{chunk_rows, shown, IsTree, rows_or};
 ghost use Rattle.map_nodes.specs.Changes.{CanMake, Makes};
-ghost use Rattle.map_nodes.specs.Nodes.{IsNode, body_levels, body_pieces, body_fresh, kids_fresh};
+ghost use Rattle.map_nodes.specs.Nodes.{IsNode, body_levels, body_pieces};
 ghost use Rattle.map_nodes.specs.Inside.Nodes.{child_rows};
 ghost use Rattle.map_nodes.specs.Inside.Halves.{half_pieces, IsHalf, IsLower, HasDepth};
 ghost use Rattle.map_nodes.specs.Inside.Laying.{IsMade, IsReached};
 ghost use Rattle.map_nodes.specs.Inside.Ready.{IsReady};
-ghost use Rattle.map_nodes.specs.Inside.Counts.{half_fresh, HasKept};
+ghost use Rattle.map_nodes.specs.Inside.Counts.{HasKept};
 ghost use Rattle.map_nodes.specs.Inside.Puts.{half_levels, value_in, ChildHalvesPut, HalvesPut, IsChildPut, IsOwnPut};
 ghost use Rattle.map_nodes.specs.Inside.Unput.{IsTold, IsUnput};
 ghost use Rattle.map_nodes.specs.Levels.{seen_levels, ArePut};
@@ -64,18 +64,15 @@ fn put_inner<C: Chunks, F: FnOnce(Option<Json>) -> Result<Update, Stop>>(
         (Ok (Puts v)) × IsOwnPut (C.contents chunks.new) put.entry.key.now v
         (shown (C.contents chunks.old) (body_pieces depth keys.old.texts (body.Inner kids.old)))
         (body_pieces depth keys.old.texts (body.Inner kids.old)) (body_pieces depth keys.new.texts (body.Inner kids.new))
-        (body_fresh (body.Inner kids.old) + depth) (body_fresh (body.Inner kids.new))
-        (body_levels depth keys.old.texts (body.Inner kids.old))
+        depth (body_levels depth keys.old.texts (body.Inner kids.old))
         (body_levels depth keys.new.texts (body.Inner kids.new)) half) }
     ensures half { IfOk result (IsHalf put.entry.copies depth) }
     ensures places { IfOk result (λ half. AreKept (C.places chunks.new)
         (places_of (body_pieces depth keys.old.texts (body.Inner kids.old)))
         (places_of (body_pieces depth keys.new.texts (body.Inner kids.new) ++ half_pieces half))) }
-    ensures fresh { IfOk result (λ half. body_fresh (body.Inner kids.new) + half_fresh half
-        < body_fresh (body.Inner kids.old) + 2 * depth) }
     ensures entries { IfOk result (HasKept (length keys.old.texts) (length keys.new.texts)) }
     ensures levels { IfOk result (λ half. (later : Contents) → IsPrefix (C.contents chunks.new) later
-        → ArePut (body_levels depth keys.old.texts (body.Inner kids.old) later)
+        → ArePut depth (body_levels depth keys.old.texts (body.Inner kids.old) later)
         (λ level. body_levels depth keys.new.texts (body.Inner kids.new) later level
         ++ half_levels half later level)) }
     ensures filled { OnOk result (0 < length (body_pieces depth keys.new.texts (body.Inner kids.new))) }
@@ -116,8 +113,6 @@ fn put_child<C: Chunks, F: FnOnce(Option<Json>) -> Result<Update, Stop>>(
         × IsChildPut (C.contents chunks.new) (put.entry.copies + 1) below place
         (slice_index_or keys.old.texts place []) put.entry.key.now v (child_rows (C.contents chunks.old) below c)
         kids.old.items kids.new.items c r.1) }
-    ensures fresh { IfOk result (λ r. kids_fresh kids.new.items + half_fresh r.1
-        ≤ kids_fresh kids.old.items + 2 * below) }
     ensures levels { (c : Childs) → slice_get kids.old.items place ≡ Some c
         → IfOk result (λ r. ChildHalvesPut (C.contents chunks.new) below place kids.old.items kids.new.items c r.1) }
     ensures places { IfOk result (λ r. AreKept (C.places chunks.new) (kids_places kids.old.items)
@@ -259,12 +254,11 @@ impl OwnNode {
         ensures put { IfOk result (λ r. (v : Bytes) × Makes (λ f x r. F.post f x r) change (value_in
             (shown (C.contents chunks.old) self.old.pieces) put.entry.key.now) (Ok (Puts v))
             × IsOwnPut (C.contents chunks.new) put.entry.key.now v (shown (C.contents chunks.old) self.old.pieces)
-            self.old.pieces self.new.pieces (self.old.fresh + self.old.depth) self.new.fresh (seen_levels self.old)
+            self.old.pieces self.new.pieces self.old.depth (seen_levels self.old)
             (seen_levels self.new) r.1) }
         ensures half { IfOk result (λ r. IsHalf (put.entry.copies + 1) self.old.depth r.1) }
         ensures places { IfOk result (λ r. AreKept (C.places chunks.new) (places_of self.old.pieces)
             (places_of (self.new.pieces ++ half_pieces r.1))) }
-        ensures fresh { IfOk result (λ r. self.new.fresh + half_fresh r.1 < self.old.fresh + 2 * self.old.depth) }
         ensures levels { IfOk result (λ r. HalvesPut (C.contents chunks.new) self.old self.new r.1) }
         ensures filled { OnOk result (0 < length self.new.pieces) }
         ensures texts { keys.new.texts ≡ keys.old.texts }
@@ -307,12 +301,11 @@ impl OwnNode {
         ensures put { IfOk result (λ half. (v : Bytes) × Makes (λ f x r. F.post f x r) change (value_in
             (shown (C.contents chunks.old) self.old.pieces) put.entry.key.now) (Ok (Puts v))
             × IsOwnPut (C.contents chunks.new) put.entry.key.now v (shown (C.contents chunks.old) self.old.pieces)
-            self.old.pieces self.new.pieces (self.old.fresh + self.old.depth) self.new.fresh (seen_levels self.old)
+            self.old.pieces self.new.pieces self.old.depth (seen_levels self.old)
             (seen_levels self.new) half) }
         ensures half { IfOk result (IsHalf put.entry.copies self.old.depth) }
         ensures places { IfOk result (λ half. AreKept (C.places chunks.new) (places_of self.old.pieces)
             (places_of (self.new.pieces ++ half_pieces half))) }
-        ensures fresh { IfOk result (λ half. self.new.fresh + half_fresh half < self.old.fresh + 2 * self.old.depth) }
         ensures entries { IfOk result (HasKept self.old.entries self.new.entries) }
         ensures levels { IfOk result (HalvesPut (C.contents chunks.new) self.old self.new) }
         ensures filled { OnOk result (0 < length self.new.pieces) }

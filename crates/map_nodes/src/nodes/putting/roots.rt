@@ -103,7 +103,6 @@ fn root_above(lower: Box<OwnNode>, half: Half, first: Text, room: SpareChunk<Own
     requires kids { (room.entries.items ≡ []) × (17 ≤ vec_capacity room.entries) }
     ensures pieces { result.pieces ≡ lower.value.pieces ++ half.node.value.pieces }
     ensures depth { result.depth ≡ lower.value.depth + 1 }
-    ensures fresh { result.fresh ≡ lower.value.fresh + half.node.value.fresh + 1 }
     ensures entries { result.entries ≡ 2 }
     ensures marks { (key : Bytes) × (result.marks
         ≡ own 0 (child_keys (key ∷ [])) ∷ sunk (lower.value.marks ++ half.node.value.marks)) }
@@ -221,7 +220,6 @@ impl OwnNode {
         requires home { IsSome above.home }
         ensures pieces { self.new.pieces ≡ self.old.pieces ++ half.node.value.pieces }
         ensures depth { self.new.depth ≡ self.old.depth + 1 }
-        ensures fresh { self.new.fresh ≡ self.old.fresh + half.node.value.fresh + 1 }
         ensures entries { self.new.entries ≡ 2 }
         ensures marks { (key : Bytes) × (self.new.marks
             ≡ own 0 (child_keys (key ∷ [])) ∷ sunk (self.old.marks ++ half.node.value.marks)) }

@@ -1,7 +1,12 @@
 //! Looks at what would stay of a child.
-ghost use Rattle.std.specs.Prelude.{◌≡◌, ◌⊎◌, IfOk, IfErr, IsSome};
+ghost use Rattle.std.specs.Prelude.{◌≡◌, ◌⊎◌, ℕ, None, IfOk, IfErr, IsSome};
 ghost use Rattle.group_history.specs.declared.mutators.Stop.TheVariants.{NoMemory};
-ghost use Rattle.map_nodes.specs.Inside.Removing.{IsFate};
+ghost use Rattle.map_nodes.specs.Inside.Halves.{HasDepth};
+ghost use Rattle.map_nodes.specs.Inside.Nodes.{child_rows};
+ghost use Rattle.map_nodes.specs.Inside.Removing.{IsFate, IsThinLater};
+ghost use Rattle.map_nodes.specs.Levels.{seen_levels};
+ghost use Rattle.map_nodes.specs.Nodes.{child_levels};
+ghost use Rattle.map_nodes.specs.declared.nodes.removing.ChildAfter.TheVariants.{Leaves};
 ghost use Rattle.map_nodes.specs.Inside.Scanning.{kid_shown};
 ghost use Rattle.map_chunks.specs.Places.{Grows, AreAll, places_of};
 ghost use Rattle.map_nodes.specs.Inside.Freezing.{child_places};
@@ -23,6 +28,8 @@ impl OwnNode {
         requires tree { IsSome (shown (C.contents chunks.old) self.now.pieces) }
         ensures grown { Grows C.contents C.places chunks.old chunks.new }
         ensures key { IfOk result (λ key. key ≡ second_key (rows_or (shown (C.contents chunks.old) self.now.pieces))) }
+        ensures thin { IfOk result (λ key. key ≡ None
+            → IsThinLater (C.contents chunks.new) self.now.depth (seen_levels self.now)) }
         ensures stopped { IfErr result (λ s. (s ≡ NoMemory) ⊎ C.stops s) }
     {
         let next = second_of(self.keys.as_slice())?;
@@ -42,6 +49,8 @@ fn kid_second<C: Chunks>(kid: &OwnChild, chunks: &mut C) -> Result<Option<Text>,
     requires tree { IsSome (kid_shown (C.contents chunks.old) kid.now) }
     ensures grown { Grows C.contents C.places chunks.old chunks.new }
     ensures key { IfOk result (λ key. key ≡ second_key (rows_or (kid_shown (C.contents chunks.old) kid.now))) }
+    ensures thin { (below : ℕ) → HasDepth below kid.now → IsSome (child_rows (C.contents chunks.old) below kid.now)
+        → IfOk result (λ key. key ≡ None → IsThinLater (C.contents chunks.new) below (child_levels below kid.now)) }
     ensures stopped { IfErr result (λ s. (s ≡ NoMemory) ⊎ C.stops s) }
 {
     match kid {
@@ -61,6 +70,9 @@ pub(super) fn fate_of<C: Chunks>(
     requires tree { IsSome (kid_shown (C.contents chunks.old) kid.now) }
     ensures grown { Grows C.contents C.places chunks.old chunks.new }
     ensures fate { IfOk result (IsFate key.now first.now (rows_or (kid_shown (C.contents chunks.old) kid.now))) }
+    ensures thin { (below : ℕ) → HasDepth below kid.now → IsSome (child_rows (C.contents chunks.old) below kid.now)
+        → IfOk result (λ fate. fate ≡ Leaves
+        → IsThinLater (C.contents chunks.new) below (child_levels below kid.now)) }
     ensures stopped { IfErr result (λ s. (s ≡ NoMemory) ⊎ C.stops s) }
 {
     if first.as_str() != key {

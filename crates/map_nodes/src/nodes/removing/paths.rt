@@ -1,13 +1,14 @@
 //! A removal on its way down.
-ghost use Rattle.std.specs.Prelude.{◌≡◌, ◌⊎◌, ◌<◌, ◌≤◌, ◌+◌, length, slice_get, Some, IsSome, IfOk};
-ghost use Rattle.std.specs.Prelude.{IfErr, OnOk, OnErr, vec_items};
+ghost use Rattle.std.specs.Prelude.{◌≡◌, ◌⊎◌, ◌<◌, length, slice_get, Some, IsSome, IfOk, IfErr, OnOk, OnErr};
+ghost use Rattle.std.specs.Prelude.{vec_items};
 ghost use Rattle.group_history.specs.Rows.{AreKeys, paired};
 ghost use Rattle.group_history.specs.declared.mutators.Stop.TheVariants.{NoMemory};
 ghost use Rattle.map_nodes.specs.Inside.Halves.{lowered};
-ghost use Rattle.map_nodes.specs.Nodes.{IsNode, body_pieces, body_fresh};
+ghost use Rattle.map_nodes.specs.Levels.{seen_levels, ShrunkLater};
+ghost use Rattle.map_nodes.specs.Nodes.{IsNode, body_levels, body_pieces};
 ghost use Rattle.map_nodes.specs.Inside.Nodes.{ChildChanged, child_rows};
 ghost use Rattle.map_nodes.specs.Removing.{without};
-ghost use Rattle.map_nodes.specs.Inside.Removing.{HasOthers, AreLeft, CanRemove, CanRemoveAt};
+ghost use Rattle.map_nodes.specs.Inside.Removing.{HasOthers, AreLeft, CanRemove, CanRemoveAt, IsLeafLeft};
 ghost use Rattle.map_chunks.specs.Places.{Grows, AreAll, AreKept, places_of};
 ghost use Rattle.map_nodes.specs.Inside.Freezing.{kids_places};
 ghost use Rattle.map_chunks.specs.Shown.{shown, IsTree, rows_or};
@@ -36,6 +37,7 @@ pub(super) fn remove_row(
     ensures rows { OnOk result (paired keys.new.texts values.new.items
         ≡ without key.now (paired keys.old.texts values.old.items)) }
     ensures keys { AreKeys keys.new.texts }
+    ensures left { OnOk result (IsLeafLeft keys.old.texts keys.new.texts) }
     ensures pairs { length values.new.items ≡ length keys.new.texts }
     ensures err { OnErr result ((keys.new.texts ≡ keys.old.texts) × (values.new.items ≡ values.old.items)) }
 {
@@ -119,9 +121,11 @@ pub(super) fn remove_at<C: Chunks>(
     ensures done { OnOk result (shown (C.contents chunks.new) (body_pieces depth keys.new.texts (body.Inner kids.new))
         ≡ Some (without removal.entry.key.now (rows_or (shown (C.contents chunks.old)
         (body_pieces depth keys.old.texts (body.Inner kids.old)))))) }
-    ensures few { OnOk result (body_fresh (body.Inner kids.new) + 1 ≤ body_fresh (body.Inner kids.old) + depth) }
     ensures places { OnOk result (AreKept (C.places chunks.new) (kids_places kids.old.items)
         (kids_places kids.new.items)) }
+    ensures levels { OnOk result (ShrunkLater (C.contents chunks.new) depth
+        (body_levels depth keys.old.texts (body.Inner kids.old))
+        (body_levels depth keys.new.texts (body.Inner kids.new))) }
     ensures left { OnOk result (AreLeft removal.entry.fate (length keys.old.texts) (length keys.new.texts)) }
     ensures err { OnErr result ((keys.new.texts ≡ keys.old.texts) × (kids.new.items ≡ kids.old.items)) }
     ensures stopped { IfErr result (λ s. (s ≡ NoMemory) ⊎ C.stops s) }
@@ -154,7 +158,8 @@ impl OwnNode {
             ≡ Some (without key.now (rows_or (shown (C.contents chunks.old) self.old.pieces)))) }
         ensures places { OnOk result (AreKept (C.places chunks.new) (places_of self.old.pieces)
             (places_of self.new.pieces)) }
-        ensures few { OnOk result (self.new.fresh + 1 ≤ self.old.fresh + self.old.depth) }
+        ensures levels { OnOk result (ShrunkLater (C.contents chunks.new) self.old.depth (seen_levels self.old)
+            (seen_levels self.new)) }
         ensures err { OnErr result (self.new ≡ self.old) }
         ensures stopped { IfErr result (λ s. (s ≡ NoMemory) ⊎ C.stops s) }
     {

@@ -1,12 +1,14 @@
 //! A removal in a whole map: a root with fewer than two children gives way to what its last child ends in.
-ghost use Rattle.std.specs.Prelude.{◌≡◌, ◌⊎◌, ◌<◌, ◌≤◌, ◌+◌, ℕ, length, None, Some};
-ghost use Rattle.std.specs.Prelude.{IsSome, IfOk, IfErr, OnOk, OnErr, vec_items};
+ghost use Rattle.std.specs.Prelude.{◌≡◌, ◌⊎◌, ◌<◌, ◌≤◌, [], ℕ, length, None, Some, IsSome, IfOk, IfErr, OnOk, OnErr};
+ghost use Rattle.std.specs.Prelude.{vec_items};
 ghost use Rattle.std.specs.List.{remove};
 ghost use Rattle.group_history.specs.Rows.{AreKeys, paired};
 ghost use Rattle.group_history.specs.declared.mutators.Stop.TheVariants.{NoMemory};
 ghost use Rattle.map_nodes.specs.Inside.Ends as ends;
-ghost use Rattle.map_nodes.specs.Inside.Ends.{end_of_pieces, IsEndBelow, IsKidBelow, IsKidEnd, IsTaken, IfNoDeeper};
-ghost use Rattle.map_nodes.specs.Nodes.{IsNode, body_pieces, kids_fresh};
+ghost use Rattle.map_nodes.specs.Inside.Ends.{end_of_pieces, IsEndBelow, IsKidBelow, IsKidEnd, IsTaken, IfEndsAt};
+ghost use Rattle.map_nodes.specs.Inside.Ends.{NarrowsLater};
+ghost use Rattle.map_nodes.specs.Levels.{seen_levels};
+ghost use Rattle.map_nodes.specs.Nodes.{IsNode, body_levels, body_pieces, child_levels};
 ghost use Rattle.map_nodes.specs.Inside.Nodes.{child_rows};
 ghost use Rattle.map_chunks.specs.Places.{Grows, AreAll, AreKept, places_of};
 ghost use Rattle.map_nodes.specs.Inside.Freezing.{child_places, kids_places};
@@ -15,10 +17,10 @@ ghost use Rattle.map_nodes.specs.declared.nodes.Body.TheVariants as body;
 ghost use Rattle.map_nodes.specs.declared.nodes.removing.NewRoot.TheVariants as heirs;
 ghost use Rattle.group_history.specs.declared.refs.Ref.{Ref as Reference};
 ghost use Rattle.map_nodes.specs.Inside.Removing as removals;
-ghost use Rattle.map_nodes.specs.Removing.{root_left, without, root_rows, IsWideRoot, IsLowRoot};
-ghost use Rattle.map_nodes.specs.Inside.Removing.{end_places, heir_places, left_fresh, left_places, left_rows};
-ghost use Rattle.map_nodes.specs.Inside.Removing.{one_shown, CanRemoveAt, IsHeir, KeptBy, IsWideLeft, IsFirstAt};
-ghost use Rattle.map_nodes.specs.Inside.Removing.{IsLowHeir, IfLowHeir};
+ghost use Rattle.map_nodes.specs.Removing.{root_left, without, root_rows, IsRootRemoved, IsWideRoot};
+ghost use Rattle.map_nodes.specs.Inside.Removing.{end_places, heir_places, left_places, left_rows, one_shown};
+ghost use Rattle.map_nodes.specs.Inside.Removing.{CanRemoveAt, IsHeir, KeptBy, IsWideLeft, IsFirstAt, HeirNarrows};
+ghost use Rattle.map_nodes.specs.Inside.Removing.{IsLeafLeft, IsRootLeft};
 ghost use Rattle.map_nodes.specs.Inside.Halves.{HasDepth};
 ghost use Rattle.map_nodes.specs.Inside.Scanning.{kid_shown};
 ghost use Rattle.map_chunks.specs.Shown.{shown, IsTree, rows_or};
@@ -38,7 +40,7 @@ impl OwnNode {
     // The placed chunk that is all there is below the chunk, if this is so.
     fn placed_end(&self) -> Option<Ref>
         ensures end { result ≡ end_of_pieces self.now.pieces }
-        ensures below { IsEndBelow self.now.depth self.now.pieces }
+        ensures below { IsEndBelow self.now.depth (seen_levels self.now) self.now.pieces }
     {
         match &self.body {
             Body::Leaf(_) => None,
@@ -60,8 +62,7 @@ impl OwnNode {
         requires { end_of_pieces self.pieces ≡ None }
         ensures pieces { result.pieces ≡ self.pieces }
         ensures wide { IsWideChunk result }
-        ensures fresh { result.fresh ≤ self.fresh }
-        ensures depth { result.depth ≤ self.depth }
+        ensures levels { NarrowsLater [] self.depth result.depth (seen_levels self) (seen_levels result) }
     {
         let OwnNode { depth, keys, body } = self;
         match body {
@@ -116,8 +117,8 @@ fn kid_end<C: Chunks>(kid: &OwnChild, chunks: &mut C) -> Result<Option<Ref>, Sto
     ensures grown { Grows C.contents C.places chunks.old chunks.new }
     ensures places { IfOk result (λ end. AreKept (C.places chunks.new) (child_places kid.now) (end_places end)) }
     ensures end { IfOk result (IsKidEnd (C.contents chunks.new) (kid_shown (C.contents chunks.old) kid.now) kid.now) }
-    ensures depth { (below : ℕ) → HasDepth below kid.now → IsSome (child_rows (C.contents chunks.old) below kid.now)
-        → IfOk result (IfNoDeeper (C.contents chunks.new) below) }
+    ensures levels { (below : ℕ) → HasDepth below kid.now → IsSome (child_rows (C.contents chunks.old) below kid.now)
+        → IfOk result (IfEndsAt (C.contents chunks.new) below (child_levels below kid.now)) }
     ensures stopped { IfErr result (λ s. (s ≡ NoMemory) ⊎ C.stops s) }
 {
     match end_of(kid) {
@@ -152,8 +153,8 @@ fn heir<C: Chunks>(
     requires tree { IsSome (one_shown (C.contents chunks.old) (remove kids.old.items place)) }
     ensures grown { Grows C.contents C.places chunks.old chunks.new }
     ensures heir { IfOk result (IsHeir (C.contents chunks.old) (C.contents chunks.new) (remove kids.old.items place)) }
-    ensures deep { (below : ℕ) → IsFirstAt (C.contents chunks.old) below (remove kids.old.items place)
-        → IfOk result (IsLowHeir (C.contents chunks.new) (below + 1)) }
+    ensures levels { (below : ℕ) → IsFirstAt (C.contents chunks.old) below (remove kids.old.items place)
+        → IfOk result (HeirNarrows (C.contents chunks.new) below (remove kids.old.items place)) }
     ensures places { IfOk result (λ heir. AreKept (C.places chunks.new) (kids_places kids.old.items)
         (heir_places heir)) }
     ensures kept { IfOk result (KeptBy kids.old.items kids.new.items) }
@@ -188,8 +189,8 @@ fn remove_inner<C: Chunks>(
     ensures done { IfOk result (λ heir. left_rows (C.contents chunks.new) depth keys.new.texts kids.new.items heir
         ≡ Some (without key.now (rows_or (shown (C.contents chunks.old)
         (body_pieces depth keys.old.texts (body.Inner kids.old)))))) }
-    ensures few { IfOk result (λ heir. left_fresh kids.new.items heir ≤ kids_fresh kids.old.items + depth) }
-    ensures deep { IfOk result (IfLowHeir (C.contents chunks.new) depth) }
+    ensures levels { IfOk result (IsRootLeft (C.contents chunks.new) depth
+        (body_levels depth keys.old.texts (body.Inner kids.old)) keys.new.texts kids.new.items) }
     ensures wide { IfOk result (IsWideLeft (C.contents chunks.new) (length keys.old.texts) (length keys.new.texts)) }
     ensures places { IfOk result (λ heir. AreKept (C.places chunks.new) (kids_places kids.old.items)
         (left_places kids.new.items heir)) }
@@ -228,8 +229,8 @@ fn remove_fated<C: Chunks>(
     ensures done { IfOk result (λ heir. left_rows (C.contents chunks.new) depth keys.new.texts kids.new.items heir
         ≡ Some (without removal.entry.key.now (rows_or (shown (C.contents chunks.old)
         (body_pieces depth keys.old.texts (body.Inner kids.old)))))) }
-    ensures few { IfOk result (λ heir. left_fresh kids.new.items heir ≤ kids_fresh kids.old.items + depth) }
-    ensures deep { IfOk result (IfLowHeir (C.contents chunks.new) depth) }
+    ensures levels { IfOk result (IsRootLeft (C.contents chunks.new) depth
+        (body_levels depth keys.old.texts (body.Inner kids.old)) keys.new.texts kids.new.items) }
     ensures wide { IfOk result (IsWideLeft (C.contents chunks.new) (length keys.old.texts) (length keys.new.texts)) }
     ensures places { IfOk result (λ heir. AreKept (C.places chunks.new) (kids_places kids.old.items)
         (left_places kids.new.items heir)) }
@@ -259,6 +260,7 @@ fn remove_in_root(
     ensures rows { IfOk result (λ root. (root ≡ None) × (paired keys.new.texts values.new.items
         ≡ without key.now (paired keys.old.texts values.old.items))) }
     ensures keys { AreKeys keys.new.texts }
+    ensures left { IfOk result (λ root. (root ≡ None) × IsLeafLeft keys.old.texts keys.new.texts) }
     ensures pairs { length values.new.items ≡ length keys.new.texts }
     ensures err { OnErr result ((keys.new.texts ≡ keys.old.texts) × (values.new.items ≡ values.old.items)) }
     ensures stopped { IfErr result (λ s. s ≡ NoMemory) }
@@ -284,8 +286,8 @@ impl OwnNode {
             ≡ Some (without key.now (rows_or (shown (C.contents chunks.old) self.old.pieces)))) }
         ensures places { IfOk result (λ root. AreKept (C.places chunks.new) (places_of self.old.pieces)
             (root_left self.new root)) }
-        ensures few { OnOk result (self.new.fresh + 1 ≤ self.old.fresh + self.old.depth) }
-        ensures deep { IfOk result (IsLowRoot (C.contents chunks.new) self.old.depth self.new) }
+        ensures levels { IfOk result (IsRootRemoved (C.contents chunks.new) self.old.depth (seen_levels self.old)
+            self.new) }
         ensures wide { IsWideChunk self.old → IfOk result (IsWideRoot (C.contents chunks.new) self.new) }
         ensures err { OnErr result (self.new ≡ self.old) }
         ensures stopped { IfErr result (λ s. (s ≡ NoMemory) ⊎ C.stops s) }

@@ -10,7 +10,7 @@ ghost use Rattle.group_history.specs.declared.nodes.Node.TheVariants as nodes;
 ghost use Rattle.group_history.specs.declared.refusals.Refusal.TheVariants as refusal;
 ghost use Rattle.map_chunks.specs.Drafts.{AddsNeeded, AreBelow, IsLate};
 ghost use Rattle.map_chunks.specs.Places.{with_nodes, places_of, AddsNamed};
-ghost use Rattle.map_chunks.specs.Shown.{shown};
+ghost use Rattle.map_chunks.specs.Shown.{fresh, shown};
 ghost use Rattle.map_chunks.specs.Wide.{IsWideAt};
 ghost use Rattle.map_nodes.specs.Inside.Freezing.{IsWritten};
 ghost use Rattle.map_nodes.specs.Levels.{placed_levels, seen_levels, NamedLater};
@@ -57,7 +57,7 @@ fn freeze_all(steps: Vec<Step>, end: End, draft: &mut Draft) -> Result<Ref, Refu
         (trail_seen steps.items end)) }
     ensures needed { IfOk result (λ at. AddsNeeded [] (at ∷ []) draft.old draft.new) }
     ensures bound { OnErr result (length draft.new.nodes
-        < length draft.old.nodes + (trail_seen steps.items end).fresh) }
+        < length draft.old.nodes + fresh (trail_seen steps.items end)) }
     ensures first { draft.new.first ≡ draft.old.first }
     ensures grown { IsPrefix draft.old.nodes draft.new.nodes }
     ensures why { IfErr result (λ e. (e ≡ refusal.NoMemory)
@@ -92,8 +92,8 @@ impl Trail {
         ensures needed { IfOk result (λ at. AddsNeeded [] (at ∷ []) draft.old draft.new) }
         ensures drafted { IfOk result (λ at. (draft.old.first ≤ stamp_of at) × (slot_of at ≡ 0)) }
         ensures below { IfOk result (λ at. stamp_of at < draft.new.first + length draft.new.nodes) }
-        ensures count { OnOk result (length draft.new.nodes ≡ length draft.old.nodes + self.fresh) }
-        ensures bound { OnErr result (length draft.new.nodes < length draft.old.nodes + self.fresh) }
+        ensures count { OnOk result (length draft.new.nodes ≡ length draft.old.nodes + fresh self) }
+        ensures bound { OnErr result (length draft.new.nodes < length draft.old.nodes + fresh self) }
         ensures first { draft.new.first ≡ draft.old.first }
         ensures grown { IsPrefix draft.old.nodes draft.new.nodes }
         ensures why { IfErr result (λ e. (e ≡ refusal.NoMemory)

@@ -8,7 +8,7 @@ ghost use Rattle.group_history.specs.Spelling.{Contents};
 ghost use Rattle.group_history.specs.declared.mutators.Stop.TheVariants.{NoMemory};
 ghost use Rattle.map_chunks.specs.Places.{Grows, AreAll, places_of};
 ghost use Rattle.map_chunks.specs.Seeking.{is_in};
-ghost use Rattle.map_chunks.specs.Shown.{shown, IsTree, rows_or};
+ghost use Rattle.map_chunks.specs.Shown.{fresh, shown, IsTree, rows_or};
 ghost use Rattle.map_nodes.specs.Inside.Spots.{IsSpot};
 ghost use Rattle.map_nodes.specs.Trails.{trail_seen, IsTrail};
 
@@ -78,7 +78,7 @@ impl Trail {
 
     /// How many chunks it is.
     pub fn new_chunks(&self) -> u64
-        ensures { result ≡ self.now.fresh }
+        ensures { result ≡ fresh self.now }
     {
         self.steps.len() as u64 + 1
     }

@@ -19,7 +19,7 @@ loop-mutation-preserved g c m h =
     let x = c.mutation-item.result in let now = replayed means m (take k xs) in
     let meaning = meaning_of means x now in
     let run = c.in_ok-run.ensures.ran now (c.loop-mutation.invariant m h) in
-    let left = c.in-Ok.ensures.ok (with_nodes g.K.NamesContents.known c.args.draft.now.nodes) meaning run in
+    let left = c.in-Some.ensures (with_nodes g.K.NamesContents.known c.args.draft.now.nodes) _ meaning now run in
     left.1 ∙ ap (λ (r : Entries). Some r) (left-done meaning now left.0 left.2
     ∙ replayed_next means m xs k x c.loop-mutation-test.true c.mutation-item.is)
 

@@ -1,8 +1,14 @@
-use Rattle.std.proofs.Common.{◌≤◌, List, take, length, Some, IsSome, refl, sym, ap, ◌∙◌, subst, arith}
+use Rattle.std.proofs.Common.{◌≡◌, ◌≤◌, List, take, length, Some, IsSome, refl, sym, ap, ◌∙◌, subst, arith}
 use Rattle.std.proofs.lemmas.List.{take_all}
 use Rattle.group_history.specs.declared.mutations.Mutation.{Mutation}
 use Rattle.group_history.specs.Map.{Entries}
 use Rattle.group_history.specs.State.{replayed}
+use Rattle.map_chunks.specs.Places.{with_nodes}
+use Rattle.replays.specs.Running.{MayReplay}
+use Rattle.replays.specs.declared.runs.Replayed.{Replayed}
+use Rattle.replays.specs.declared.runs.Replayed.TheVariants as replay
+use Rattle.group_history.specs.Refs.{stamp_of}
+use Rattle.group_history.specs.Spelling.{map_at}
 use Rattle.replays.proofs.ReplayLemmas.{replayed_done, replayed_next}
 use Rattle.replays.proofs.locals.run_undoing.Goals as goal
 
@@ -26,13 +32,16 @@ returns-clause-done g c m h =
 pub loop-mutation-preserved : goal.loop-mutation-preserved
 loop-mutation-preserved g c =
     let means = g.M.Means.means in let k = c.loop-mutation.mutation-index in let xs = c.args.pending.now in
-    let x = c.mutation-item.result in let v = c.loop-mutation.invariant in let run = c.in_ok-run in
+    let x = c.mutation-item.result in let v = c.loop-mutation.invariant in
+    let contents = with_nodes g.K.NamesContents.known c.args.draft.now.nodes in
+    let now : Entries → Entries = λ m. replayed means m (take k xs) in
+    let may : (m : Entries) → map_at contents (stamp_of c.args.root) ≡ Some m
+    → MayReplay contents (g.M.Runs.has x.name) means (now m) x (replay.Ran c.in-Ran.left) = λ m h. subst (λ (w : Replayed). MayReplay contents (g.M.Runs.has x.name) means (now m) x w) c.in-Ran.is
+    (c.in_ok-left.ensures.left (now m) (v.tree m h)) in
     record {
-      tree = λ m h. run.ensures.left (replayed means m (take k xs)) (v.tree m h) ∙ ap (λ (r : Entries). Some r)
+      tree = λ m h. (may m h).1 ∙ ap (λ (r : Entries). Some r)
           (replayed_next means m xs k x c.loop-mutation-test.true c.mutation-item.is);
-      done = λ m h. let now = replayed means m (take k xs) in
-          ap (replayed means m) c.in_ok-add_if.ensures
-          ∙ replayed_done means m now c.loop-mutation.done.items run.run'.done x (v.done m h)
-          (run.ensures.same now (v.tree m h))
+      done = λ m h. ap (replayed means m) c.in_ok-add_if.ensures
+          ∙ replayed_done means m (now m) c.loop-mutation.done.items c.in-Ran.left.done x (v.done m h) (may m h).2
           ∙ replayed_next means m xs k x c.loop-mutation-test.true c.mutation-item.is;
     }

@@ -6,6 +6,7 @@ use Rattle.group_history.specs.Pull.{Pull}
 use Rattle.group_steps.specs.Missing.{map_ok}
 use Rattle.pull_patch.specs.Grammar.{answer_to}
 use Rattle.rebase.specs.Replies.{reply_seen}
+use Rattle.host_places.specs.Runs.{none_own}
 use Rattle.rebase.specs.Running.{EndsPull, IsAsked, IsFirst, IsUnwritten, UnderWay}
 use Rattle.host_places.specs.declared.faults.Fault.TheVariants as fault
 use Rattle.host_places.specs.Answers.{At, tries}
@@ -39,9 +40,9 @@ returns g c =
     (at_some (ticket_at b.tickets n) fault.NoTicket (λ kept. AsksToEnd means client kept body) kept b t new
     (ticket_kept _ c.take.new.self b c.deref.result.now n kept c.in-Some.ensures c.deref.ensures.value c.self.view_is
     taken.left)
-    (stood step.result (λ a. asks a × IsFirst a × IsUnwritten a)
+    (stood step.result (λ a. asks a × IsFirst none_own a × IsUnwritten none_own a)
     (λ next reply. EndsPull means ⊤ tries client next kept.cookie body reply) b c.take.new.self new t taken.seat
     taken.left
-    (tells_all step.result asks IsFirst IsUnwritten
+    (tells_all step.result asks (IsFirst none_own) (IsUnwritten none_own)
     (λ next reply. EndsPull means ⊤ tries client next kept.cookie body (map_ok reply_seen reply)) step.ensures.told
     step.ensures.first step.ensures.fresh) c.go_on.ensures))

@@ -2,6 +2,7 @@ use Rattle.std.proofs.Common.{inr}
 use Rattle.std.specs.Prelude.{⊤}
 use Rattle.group_steps.specs.Missing.{map_ok}
 use Rattle.rebase.specs.Replies.{reply_seen}
+use Rattle.host_places.specs.Runs.{none_own}
 use Rattle.rebase.specs.Running.{EndsCall, IsAsked, IsFirst, IsUnwritten}
 use Rattle.host_places.specs.Answers.{tries}
 use Rattle.host_places.specs.Drafts.{AsksToMutate, mutation_of}
@@ -27,9 +28,9 @@ returns-in-Client g c =
     inr (by_ok _ _ said _ _ _ c.in-Ok.ensures
     (by_client (λ b. AsksToMutate means b said.0 said.1 c.args.named.time) client c.args.self.now c.go_on.new.self t
     taken.client
-    (stood step.result (λ a. IsAsked means ⊤ tries client change a × IsFirst a × IsUnwritten a)
+    (stood step.result (λ a. IsAsked means ⊤ tries client change a × IsFirst none_own a × IsUnwritten none_own a)
     (λ next reply. EndsCall means ⊤ tries client next change reply) c.args.self.now c.take.new.self c.go_on.new.self t
     taken.seat taken.left
-    (tells_all step.result (IsAsked means ⊤ tries client change) IsFirst IsUnwritten
+    (tells_all step.result (IsAsked means ⊤ tries client change) (IsFirst none_own) (IsUnwritten none_own)
     (λ next reply. EndsCall means ⊤ tries client next change (map_ok reply_seen reply)) step.ensures.told
     step.ensures.first step.ensures.fresh) c.go_on.ensures)))

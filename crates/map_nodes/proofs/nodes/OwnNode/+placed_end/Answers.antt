@@ -1,7 +1,9 @@
 use Rattle.std.proofs.Common.{◌≡◌, ◌∙◌, ◌-◌, length, ap, sym, subst, arith}
 use Rattle.group_history.specs.Rows.{paired}
 use Rattle.map_nodes.specs.Inside.Ends.{end_of_pieces, end_of, IsEndBelow, IsKidBelow}
-use Rattle.map_nodes.specs.Nodes.{body_pieces, kids_pieces, IsNode}
+use Rattle.map_nodes.specs.Levels.{levels_of, parting, seen_levels}
+use Rattle.map_nodes.specs.Nodes.{body_marks, body_pieces, kids_pieces, IsNode}
+use Rattle.map_nodes.proofs.LevelLemmas.{inner-levels}
 use Rattle.map_chunks.specs.Shown.{Seen}
 use Rattle.map_nodes.specs.declared.nodes.Body.TheVariants.{Inner}
 use Rattle.map_nodes.proofs.EndLemmas.{end-many, end-one, end-rows, many-below, one-below, rows-below}
@@ -58,9 +60,9 @@ pub returns-in-Leaf-clause-below : goal.returns-in-Leaf-clause-below
 returns-in-Leaf-clause-below t c =
     let depth = c.self.inside.depth in
     let keys = c.self.inside.keys.texts in
-    subst (λ (s : Seen). IsEndBelow s.depth s.pieces) c.self.view_is
-    (subst (λ b. IsEndBelow depth (body_pieces depth keys b)) (sym c.in-Leaf.is)
-    (rows-below depth (paired keys c.in-Leaf.field-0.items)))
+    subst (λ (s : Seen). IsEndBelow s.depth (seen_levels s) s.pieces) c.self.view_is
+    (subst (λ b. IsEndBelow depth (λ p. levels_of p (body_marks depth keys b)) (body_pieces depth keys b))
+    (sym c.in-Leaf.is) (rows-below depth _ (paired keys c.in-Leaf.field-0.items)))
 
 pub returns-then-len-ne1-clause-below : goal.returns-then-len-ne1-clause-below
 returns-then-len-ne1-clause-below t c =
@@ -68,9 +70,10 @@ returns-then-len-ne1-clause-below t c =
     let keys = c.self.inside.keys.texts in
     let kids = c.in-Inner.kids.items in
     let i : IsNode depth keys (Inner c.in-Inner.kids) = subst (IsNode depth keys) c.in-Inner.is c.self.invariant in
-    subst (λ (s : Seen). IsEndBelow s.depth s.pieces) c.self.view_is
-    (subst (λ b. IsEndBelow depth (body_pieces depth keys b)) (sym c.in-Inner.is)
-    (many-below depth (depth - 1) keys kids i.1.2 i.1.1
+    subst (λ (s : Seen). IsEndBelow s.depth (seen_levels s) s.pieces) c.self.view_is
+    (subst (λ b. IsEndBelow depth (λ p. levels_of p (body_marks depth keys b)) (body_pieces depth keys b))
+    (sym c.in-Inner.is)
+    (many-below depth (depth - 1) _ keys kids i.1.2 i.1.1
     (λ e. c.if-len-ne1.true (let q : c.len.result
     ≡ 1 = omega (arith, c.len.ensures, e, c.in-Inner.kids.ok.0) in q)) i.1.3))
 
@@ -81,9 +84,11 @@ returns-in-Placed-clause-below t c =
     let kids = c.in-Inner.kids.items in
     let i : IsNode depth keys (Inner c.in-Inner.kids) = subst (IsNode depth keys) c.in-Inner.is c.self.invariant in
     let one : length kids ≡ 1 = omega (arith, c.len.ensures, c.if-len-ne1.false, c.in-Inner.kids.ok.0) in
-    subst (λ (s : Seen). IsEndBelow s.depth s.pieces) c.self.view_is
-    (subst (λ b. IsEndBelow depth (body_pieces depth keys b)) (sym c.in-Inner.is)
-    (one-below depth keys kids c.index.result.now i.1.2 one c.index.ensures i.1.0 i.1.3
+    subst (λ (s : Seen). IsEndBelow s.depth (seen_levels s) s.pieces) c.self.view_is
+    (subst (λ b. IsEndBelow depth (λ p. levels_of p (body_marks depth keys b)) (body_pieces depth keys b))
+    (sym c.in-Inner.is)
+    (one-below depth (λ p. levels_of p (body_marks depth keys (Inner c.in-Inner.kids))) keys kids c.index.result.now
+    i.1.2 one c.index.ensures i.1.0 (λ p j. inner-levels p (depth - 1) (parting keys) kids j) i.1.3
     (subst IsKidBelow (sym c.in-Placed.is) tt)))
 
 pub returns-in-Own-clause-below : goal.returns-in-Own-clause-below
@@ -93,8 +98,10 @@ returns-in-Own-clause-below t c =
     let kids = c.in-Inner.kids.items in
     let i : IsNode depth keys (Inner c.in-Inner.kids) = subst (IsNode depth keys) c.in-Inner.is c.self.invariant in
     let one : length kids ≡ 1 = omega (arith, c.len.ensures, c.if-len-ne1.false, c.in-Inner.kids.ok.0) in
-    subst (λ (s : Seen). IsEndBelow s.depth s.pieces) c.self.view_is
-    (subst (λ b. IsEndBelow depth (body_pieces depth keys b)) (sym c.in-Inner.is)
-    (one-below depth keys kids c.index.result.now i.1.2 one c.index.ensures i.1.0 i.1.3
+    subst (λ (s : Seen). IsEndBelow s.depth (seen_levels s) s.pieces) c.self.view_is
+    (subst (λ b. IsEndBelow depth (λ p. levels_of p (body_marks depth keys b)) (body_pieces depth keys b))
+    (sym c.in-Inner.is)
+    (one-below depth (λ p. levels_of p (body_marks depth keys (Inner c.in-Inner.kids))) keys kids c.index.result.now
+    i.1.2 one c.index.ensures i.1.0 (λ p j. inner-levels p (depth - 1) (parting keys) kids j) i.1.3
     (subst IsKidBelow (sym c.in-Own.is) (subst
-    (λ (s : Seen). IsEndBelow s.depth s.pieces) c.deref.ensures c.placed_end.ensures.below))))
+    (λ (s : Seen). IsEndBelow s.depth (seen_levels s) s.pieces) c.deref.ensures c.placed_end.ensures.below))))

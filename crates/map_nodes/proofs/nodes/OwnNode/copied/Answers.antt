@@ -12,6 +12,8 @@ use Rattle.map_nodes.proofs.CopyLemmas.{copyable}
 use Rattle.map_nodes.proofs.NamedLemmas.{copy-places}
 use Rattle.map_chunks.proofs.OpenLemmas.{rows-kept}
 use Rattle.map_chunks.proofs.Shelves.{some_of}
+use mathlib.Core.List.{IsPrefix}
+use Rattle.map_nodes.proofs.KeptLevels.{copy_levels}
 use Rattle.map_nodes.proofs.WideLemmas.{wide-copy}
 use Rattle.map_nodes.proofs.nodes.OwnNode.copied.Goals as goal
 
@@ -48,7 +50,7 @@ returns-clause-wide g c w =
     let k = copyable p c.args.depth (stamp_of c.args.at) s.0 _ r c.in_ok-held.ensures.content in
     let is = subst (λ (ch : Chunk Ref). IsCopy c.args.depth ch c.in_ok-node.field-0) c.chunk.ensures
     c.in_ok-node.ensures in
-    wide-copy p (stamp_of c.args.at) c.args.depth _ c.in_ok-node.field-0 c.in_ok-held.ensures.content k.deep is.0 is.3
+    wide-copy p (stamp_of c.args.at) c.args.depth _ c.in_ok-node.field-0 c.in_ok-held.ensures.content k.deep is.0 is.2
     (subst (λ q. IsWideAt q (stamp_of c.args.at)) (ap g.C.Chunks.contents c.leave.ensures) w)
 
 pub returns-clause-places : goal.returns-clause-places
@@ -57,3 +59,15 @@ returns-clause-places g c at h =
     (copy-places c.args.depth (g.C.Held.ShowsChunk.shown c.in_ok-held.held) at
     (subst (λ ps. Contains (places_of ps) at)
     (c.in_ok-node.ensures.1 ∙ ap (chunk_pieces c.args.depth) c.chunk.ensures) h))))
+
+pub returns-clause-levels : goal.returns-clause-levels
+returns-clause-levels g c later pre =
+    let p = g.C.Chunks.contents c.show.new.self in
+    let k = stamp_of c.args.at in
+    let s = some_of (rows_at (g.C.Chunks.contents c.args.chunks.now) c.args.depth k) c.requires.known in
+    let r = rows-kept (g.C.Chunks.contents c.args.chunks.now) p c.args.depth k s.0 c.show.ensures.grown.0 s.1 in
+    let y = copyable p c.args.depth k s.0 _ r c.in_ok-held.ensures.content in
+    let is = subst (λ (ch : Chunk Ref). IsCopy c.args.depth ch c.in_ok-node.field-0) c.chunk.ensures
+    c.in_ok-node.ensures in
+    copy_levels p k c.args.depth _ c.in_ok-node.field-0 y.deep is.3 c.in_ok-held.ensures.content later
+    (subst (λ q. IsPrefix q later) (ap g.C.Chunks.contents c.leave.ensures) pre)

@@ -1,11 +1,11 @@
-use Rattle.std.proofs.Common.{◌≡◌, ◌∙◌, ap, sym, subst, refl, arith, ◌-◌, length, [], ◌∷◌}
+use Rattle.std.proofs.Common.{◌≡◌, ◌∙◌, ap, sym, subst, refl, ◌-◌, length, [], ◌∷◌}
 use Rattle.group_history.specs.Rows.{Rows, keys_of, values_of, paired, AreKeys}
 use Rattle.group_history.proofs.Pairs.{paired-parts}
 use Rattle.map_chunks.specs.Shown.{own, leaf_keys}
 use Rattle.map_nodes.specs.Inside.Copies.{MayBeDeep, chunk_pieces, chunk_entries, chunk_marks}
 use Rattle.map_nodes.specs.Levels.{parting}
-use Rattle.map_nodes.specs.Nodes.{row_pieces, kids_fresh, kids_marks, sunk}
-use Rattle.map_nodes.proofs.CopyLemmas.{all_as_placed, copied_inner, copied_pieces, placed_fresh}
+use Rattle.map_nodes.specs.Nodes.{row_pieces, kids_marks, sunk}
+use Rattle.map_nodes.proofs.CopyLemmas.{all_as_placed, copied_inner, copied_pieces}
 use Rattle.map_nodes.proofs.KeptLevels.{placed-values}
 use Rattle.map_chunks.proofs.SearchLemmas.{length-keys_of}
 use Rattle.map_nodes.proofs.nodes.OwnNode.of_chunk.Goals as goal
@@ -35,7 +35,6 @@ returns-in_ok-copied_values-in-Leaf c =
       ap (λ w. row_pieces (paired w c.in_ok-copied_values-in-Leaf.field-0.items)) texts ∙ ap
           (λ w. row_pieces (paired (keys_of rows) w)) items
           ∙ ap row_pieces (paired-parts rows) ∙ ap (chunk_pieces c.args.depth) (sym c.in-Leaf.is),
-      refl,
       ap length texts ∙ length-keys_of rows ∙ ap chunk_entries (sym c.in-Leaf.is),
       ap (λ w. own 0 (leaf_keys w) ∷ []) texts ∙ ap (chunk_marks c.args.depth) (sym c.in-Leaf.is),
     )
@@ -53,7 +52,6 @@ returns-in_ok-placed_children-in-Inner c =
       copied_pieces (c.args.depth - 1) c.shared-keys-in-Inner.result.texts
           c.in_ok-placed_children-in-Inner.field-0.items kids texts items ∙ ap (chunk_pieces c.args.depth)
           (sym c.in-Inner.is),
-      omega (arith, placed_fresh (values_of kids), ap kids_fresh items),
       ap length texts ∙ length-keys_of kids ∙ ap chunk_entries (sym c.in-Inner.is),
       ap (λ w. own 0 (parting w) ∷ sunk (kids_marks (c.args.depth - 1) c.in_ok-placed_children-in-Inner.field-0.items))
           texts

@@ -41,6 +41,6 @@ returns-clause-put g c =
       z.0,
       z.1,
       put_topped p q (g.C.Chunks.places c.put.new.chunks) c.args.put.key.now z.0 c.args.self.now c.put.new.self
-          c.risen.new.self c.in_ok-half.half c.put.ensures.depth z.2 made.places made.fresh made.entries made.levels
+          c.risen.new.self c.in_ok-half.half c.put.ensures.depth z.2 made.places made.entries made.levels
           c.risen.ensures,
     )

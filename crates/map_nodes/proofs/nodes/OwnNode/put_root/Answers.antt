@@ -69,7 +69,7 @@ returns-in-Ok-clause-put g c =
         refl,
         put_whole p q (g.C.Chunks.places c.put.new.chunks) c.args.key.now z.0 old c.put.new.self half
             (had_room old.entries c.put.new.self.entries half made.entries few) c.put.ensures.depth z.2 made.places
-            made.fresh made.entries made.levels,
+            made.entries made.levels,
       ),
     )
 

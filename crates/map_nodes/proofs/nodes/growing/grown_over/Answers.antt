@@ -1,16 +1,14 @@
 use Rattle.std.proofs.Common.{◌≡◌, ◌∙◌, ◌+◌, ◌-◌, ap, refl, sym, subst, arith, length, set, get_or, []}
 use Rattle.group_history.specs.Rows.{keys_of, paired, values_of}
-use Rattle.map_chunks.proofs.SearchLemmas.{length-keys_of, length-values_of}
+use Rattle.map_chunks.proofs.SearchLemmas.{length-keys_of}
 use Rattle.map_chunks.specs.Search.{IsPlace}
 use Rattle.map_nodes.proofs.PathLemmas.{length-lowered, ninth_lowered_in}
 use Rattle.map_chunks.specs.Shown.{Seen}
-use Rattle.map_nodes.proofs.TrailLemmas.{fresh_placed}
 use Rattle.map_nodes.specs.Inside.Counts.{HasKept}
 use Rattle.map_nodes.specs.Inside.Halves.{lowered, with_half, Finished, IsHalf, IsLower}
 use Rattle.map_nodes.specs.Inside.Laying.{entries_over, inner_seen, kids_over}
 use Rattle.map_nodes.specs.Inside.Puts.{IsHalved}
 use Rattle.map_nodes.specs.Inside.Ready.{AreNinthIn, Fits}
-use Rattle.map_nodes.specs.Nodes.{kids_fresh}
 use Rattle.map_nodes.specs.Trails.{placed_kids}
 use Rattle.map_nodes.specs.declared.nodes.OwnChild.TheVariants.{Own}
 use Rattle.map_nodes.proofs.nodes.growing.grown_over.Goals as goal
@@ -83,14 +81,6 @@ returns c =
           (ninth_lowered_in copies (keys_of kids) i c.args.down.now.key.now lower c.in_ok-ready.ready.room
           c.requires.place low (subst (λ ks. AreNinthIn copies ks (i + 1) c.args.down.now.key.now
           c.in_ok-ready.ready.room) texts (c.in_ok-ready.ensures.ready some).1) k z)));
-      few = let f = fresh_placed (values_of kids) i kid (omega
-          (arith, length-keys_of kids, length-values_of kids, c.requires.place.0)) in
-          omega (
-            arith,
-            c.finish-half.ensures.fresh,
-            ap kids_fresh over,
-            f,
-          );
       entries = subst (λ m. HasKept m (length keys) made) n c.finish-half.ensures.entries;
       parted = subst (λ d. IsHalved d keys children made (keys_of (entries_over kids i lower kid half))
           (values_of (entries_over kids i lower kid half))) deep

@@ -1,9 +1,12 @@
-use Rattle.std.proofs.Common.{◌∙◌, ap, sym, Some, arith}
+use Rattle.std.proofs.Common.{◌∙◌, ap, inl, refl, subst, sym, Some, arith}
+use Rattle.map_nodes.proofs.RemoveLevels.{removed_low, still_root}
+use Rattle.map_nodes.specs.Levels.{RemovedLater}
 use Rattle.std.specs.FinMap as finite
-use Rattle.map_tree.specs.Trees.{tree_map}
+use Rattle.map_tree.specs.Trees.{tree_levels, tree_map}
 use Rattle.map_chunks.proofs.AnswerLemmas.{on_ok}
 use Rattle.map_chunks.proofs.JoinLemmas.{some_is}
 use Rattle.map_tree.proofs.DeleteLemmas.{not_there}
+use Rattle.map_tree.proofs.LevelCounts.{removed_few}
 use Rattle.map_nodes.proofs.RemoveLemmas.{removed_same}
 use Rattle.map_tree.proofs.RootCounts.{root_depth_kept, wide_root_grown}
 use Rattle.map_chunks.proofs.Shelves.{some_of}
@@ -29,13 +32,43 @@ returns-then-sought-clause-ok g c m h =
 
 pub returns-then-sought-clause-few : goal.returns-then-sought-clause-few
 returns-then-sought-clause-few g c d e =
-    c.remove.ensures.few d (root_depth_kept (g.C.Chunks.contents c.args.chunks.now)
-    (g.C.Chunks.contents c.sought.new.chunks) c.args.self.now.root d c.sought.ensures.grown.0 e)
+    let q = g.C.Chunks.contents c.remove.new.chunks in
+    let same = some_is (sym c.in_ok-sought.ensures.depth ∙ e) in
+    on_ok c.remove.result c.remove.ensures.levels (λ n. omega (
+      arith,
+      same,
+      removed_few q c.args.self.now c.remove.new.self _ n.0 n.2,
+    ))
+
+pub returns-then-sought-clause-levels : goal.returns-then-sought-clause-levels
+returns-then-sought-clause-levels g c =
+    let q = g.C.Chunks.contents c.remove.new.chunks in
+    let now = c.remove.new.self in
+    on_ok c.remove.result c.remove.ensures.levels (λ n d t. (
+      n.0,
+      n.1,
+      subst (λ w. RemovedLater w n.0 q (tree_levels c.args.self.now) (tree_levels now))
+          (some_is (sym c.in_ok-sought.ensures.depth ∙ t)) n.2,
+    ))
+
+pub returns-clause-levels : goal.returns-clause-levels
+returns-clause-levels g c d t =
+    let q = g.C.Chunks.contents c.sought.new.chunks in
+    let tree = c.args.self.now in (
+      d,
+      root_depth_kept (g.C.Chunks.contents c.args.chunks.now) q tree.root d c.sought.ensures.grown.0 t,
+      still_root q d (tree_levels tree) (tree_levels tree) (λ later pre level. inl refl),
+    )
 
 pub returns-then-sought-clause-deep : goal.returns-then-sought-clause-deep
 returns-then-sought-clause-deep g c d t =
+    let q = g.C.Chunks.contents c.remove.new.chunks in
     let e = some_is (sym c.in_ok-sought.ensures.depth ∙ t) in
-    on_ok c.remove.result c.remove.ensures.deep (λ n. (n.0, n.1, omega (arith, n.2, e)))
+    on_ok c.remove.result c.remove.ensures.levels (λ n. (
+      n.0,
+      n.1,
+      omega (arith, e, removed_low q _ n.0 (tree_levels c.args.self.now) (tree_levels c.remove.new.self) n.2),
+    ))
 
 pub returns-clause-deep : goal.returns-clause-deep
 returns-clause-deep g c d t = (

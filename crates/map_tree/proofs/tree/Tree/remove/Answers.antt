@@ -1,14 +1,18 @@
-use Rattle.std.proofs.Common.{◌≡◌, ◌≤◌, ℕ, ◌∙◌, ap, sym, subst, Some, arith}
+use Rattle.std.proofs.Common.{◌≡◌, ℕ, ◌∙◌, ap, sym, subst, Some}
 use Rattle.std.specs.Prelude.{IsSome}
 use Rattle.map_chunks.specs.Places.{AreKept, places_of}
-use Rattle.map_tree.specs.Trees.{root_places, tree_places, root_map, root_depth, root_fresh, root_or, IsWide}
+use Rattle.map_tree.specs.Trees.{root_levels, tree_levels, root_places, tree_places, root_map, root_depth, root_or}
+use Rattle.map_tree.specs.Trees.{IsWide}
 use Rattle.map_chunks.specs.Shown.{shown}
 use Rattle.map_tree.specs.declared.tree.Root.{Root}
 use Rattle.map_tree.specs.declared.tree.Root.TheVariants.{Own}
-use Rattle.map_tree.proofs.DeleteLemmas.{removed_map, removed_depth, removed_fresh, removed_places, removed_wide}
-use Rattle.map_chunks.proofs.JoinLemmas.{some_is}
+use Rattle.map_tree.proofs.DeleteLemmas.{removed_map, removed_levels, removed_places, removed_wide}
 use Rattle.map_chunks.proofs.KeptLemmas.{kept-from_none}
-use Rattle.map_tree.proofs.RootCounts.{own_depth}
+use Rattle.group_history.proofs.Lists.{prefix_trans}
+use Rattle.group_history.specs.Refs.{stamp_of}
+use Rattle.map_nodes.proofs.RemoveLevels.{removed_from}
+use Rattle.map_nodes.specs.Levels.{placed_levels, seen_levels, RemovedLater}
+use Rattle.map_tree.proofs.RootCounts.{own_depth, placed_as}
 use Rattle.map_tree.proofs.PlaceLemmas.{placed_may, own_may}
 use Rattle.map_tree.proofs.tree.Tree.remove.Goals as goal
 
@@ -20,27 +24,34 @@ returns-in-Own-clause-ok g c m h =
     ∙ removed_map q c.remove_root.new.self c.in_ok-end-in-Own.end (shown p c.in-Own.node.pieces) m c.args.key.now
     (ap (root_map p) (sym c.in-Own.is) ∙ h) c.in_ok-end-in-Own.ensures.done
 
-pub returns-in-Own-clause-few : goal.returns-in-Own-clause-few
-returns-in-Own-clause-few g c d t =
-    let e = own_depth (g.C.Chunks.contents c.args.chunks.now) c.args.self.now.root c.in-Own.node d c.in-Own.is t in
-    omega (
-      arith,
-      c.in_ok-end-in-Own.ensures.few,
-      removed_fresh c.remove_root.new.self c.in_ok-end-in-Own.end,
-      ap root_fresh c.give_way.ensures,
-      ap root_fresh c.in-Own.is,
-      e,
-    )
-
-pub returns-in-Own-clause-deep : goal.returns-in-Own-clause-deep
-returns-in-Own-clause-deep g c =
+pub returns-in-Own-clause-levels : goal.returns-in-Own-clause-levels
+returns-in-Own-clause-levels g c =
     let q = g.C.Chunks.contents c.remove_root.new.chunks in
-    let n = c.remove_root.new.self in
-    let top = own_depth (g.C.Chunks.contents c.args.chunks.now) c.args.self.now.root c.in-Own.node c.args.depth
+    let m = c.in-Own.node in
+    let new = root_or c.in_ok-end-in-Own.end (Own c.remove_root.new.self) in
+    let top = own_depth (g.C.Chunks.contents c.args.chunks.now) c.args.self.now.root m c.args.depth
     c.in-Own.is c.requires.depth in
-    subst (λ (r : Root). (e : ℕ) × (root_depth q r ≡ Some e) × (e ≤ c.args.depth)) (sym c.give_way.ensures)
-    (subst (λ d. (e : ℕ) × (root_depth q (root_or c.in_ok-end-in-Own.end (Own n)) ≡ Some e) × (e ≤ d)) top
-    (removed_depth q c.in-Own.node.depth n c.in_ok-end-in-Own.end c.in_ok-end-in-Own.ensures.deep))
+    subst (λ (r : Root). (e : ℕ) × (root_depth q r ≡ Some e)
+    × RemovedLater c.args.depth e q (tree_levels c.args.self.now) (root_levels r)) (sym c.give_way.ensures)
+    (subst (λ (o : Root). (e : ℕ) × (root_depth q new ≡ Some e)
+    × RemovedLater c.args.depth e q (root_levels o) (root_levels new)) (sym c.in-Own.is)
+    (subst (λ d. (e : ℕ) × (root_depth q new ≡ Some e) × RemovedLater d e q (seen_levels m) (root_levels new)) top
+    (removed_levels q m.depth (seen_levels m) c.remove_root.new.self c.in_ok-end-in-Own.end
+    c.in_ok-end-in-Own.ensures.levels)))
+
+pub returns-in-Placed-clause-levels : goal.returns-in-Placed-clause-levels
+returns-in-Placed-clause-levels g c =
+    let p = g.C.Chunks.contents c.args.chunks.now in
+    let q = g.C.Chunks.contents c.root_without.new.chunks in
+    let at = c.in-Placed.at in
+    let new = c.in_ok-self-in-Placed.ensures.levels in (
+      new.0,
+      new.1,
+      removed_from q c.args.depth new.0 (λ r. placed_levels r c.args.depth (stamp_of at))
+          (tree_levels c.args.self.now) _
+          (λ r pre i. placed_as p r c.args.self.now.root at c.args.depth c.in-Placed.is c.requires.depth
+          (prefix_trans p q r c.root_without.ensures.grown.0 pre) i) new.2,
+    )
 
 pub returns-in-Own-clause-wide : goal.returns-in-Own-clause-wide
 returns-in-Own-clause-wide g c w =
@@ -70,10 +81,6 @@ root_without-requires-clause-depth g c = subst
 pub returns-in-Placed-clause-ok : goal.returns-in-Placed-clause-ok
 returns-in-Placed-clause-ok g c m h = c.in_ok-self-in-Placed.ensures.ok m
     (ap (root_map (g.C.Chunks.contents c.args.chunks.now)) (sym c.in-Placed.is) ∙ h)
-
-pub returns-in-Placed-clause-few : goal.returns-in-Placed-clause-few
-returns-in-Placed-clause-few g c d t = omega
-    (arith, c.in_ok-self-in-Placed.ensures.few, some_is (sym c.requires.depth ∙ t))
 
 pub returns-in-Placed-clause-wide : goal.returns-in-Placed-clause-wide
 returns-in-Placed-clause-wide g c w = c.in_ok-self-in-Placed.ensures.wide

@@ -1,16 +1,18 @@
-use Rattle.std.proofs.Common.{[], ◌≡◌, ◌≤◌, ℕ, Some, ◌∙◌, ap, sym, subst, refl, arith}
+use Rattle.std.proofs.Common.{[], ◌≡◌, ℕ, Some, ◌∙◌, ap, sym, subst, refl}
 use Rattle.std.specs.Prelude.{IsSome}
 use Rattle.group_history.specs.Refs.{stamp_of}
-use Rattle.group_history.specs.Spelling.{map_at}
+use Rattle.group_history.specs.Spelling.{map_at, rows_at}
 use Rattle.map_chunks.specs.Places.{AreKept, places_of}
-use Rattle.map_tree.specs.Trees.{root_places, root_map, root_depth, root_fresh, root_or, IsWide}
+use Rattle.map_tree.specs.Trees.{root_levels, root_places, root_map, root_depth, root_or, IsWide}
 use Rattle.map_nodes.specs.Removing.{root_left}
 use Rattle.map_chunks.specs.Shown.{shown}
 use Rattle.map_tree.specs.declared.tree.Root.{Root}
 use Rattle.map_tree.specs.declared.tree.Root.TheVariants.{Own}
-use Rattle.map_tree.proofs.DeleteLemmas.{removed_map, removed_depth, removed_fresh, removed_places, removed_wide}
-use Rattle.map_tree.proofs.DeleteLemmas.{wide_at-kept}
+use Rattle.map_tree.proofs.DeleteLemmas.{removed_map, removed_levels, removed_places, removed_wide, wide_at-kept}
 use Rattle.map_chunks.proofs.KeptLemmas.{kept-grown, kept-trans}
+use Rattle.group_history.proofs.Lists.{prefix_trans}
+use Rattle.map_nodes.proofs.RemoveLevels.{copied_deep, removed_copied}
+use Rattle.map_nodes.specs.Levels.{placed_levels, seen_levels, AreRemovedIn, RemovedLater}
 use Rattle.map_tree.proofs.RootCounts.{placed_rows}
 use Rattle.map_chunks.proofs.Shelves.{some_of}
 use Rattle.map_chunks.proofs.TreeLemmas.{map_from}
@@ -42,25 +44,29 @@ returns-clause-ok g c m h =
     (g.C.Chunks.contents c.args.chunks.now) c.args.at m c.args.depth h c.requires.depth))
     c.in_ok-end.ensures.done
 
-pub returns-clause-few : goal.returns-clause-few
-returns-clause-few g c =
-    omega (
-      arith,
-      c.in_ok-end.ensures.few,
-      removed_fresh c.remove_root.new.self c.in_ok-end.end,
-      ap root_fresh c.give_way.ensures,
-      c.in_ok-node.ensures.fresh,
-      c.in_ok-node.ensures.depth,
-    )
-
-pub returns-clause-deep : goal.returns-clause-deep
-returns-clause-deep g c =
+pub returns-clause-levels : goal.returns-clause-levels
+returns-clause-levels g c =
     let q = g.C.Chunks.contents c.remove_root.new.chunks in
+    let k = stamp_of c.args.at in
     let n = c.remove_root.new.self in
-    subst (λ (r : Root). (e : ℕ) × (root_depth q r ≡ Some e) × (e ≤ c.args.depth)) (sym c.give_way.ensures)
-    (subst (λ d. (e : ℕ) × (root_depth q (root_or c.in_ok-end.end (Own n)) ≡ Some e) × (e ≤ d))
-    c.in_ok-node.ensures.depth
-    (removed_depth q c.in_ok-node.node.depth n c.in_ok-end.end c.in_ok-end.ensures.deep))
+    let m = c.in_ok-node.node in
+    let left = removed_levels q m.depth (seen_levels m) n c.in_ok-end.end c.in_ok-end.ensures.levels in
+    let deep : m.depth ≡ c.args.depth = c.in_ok-node.ensures.depth in
+    let p = g.C.Chunks.contents c.args.chunks.now in
+    let s = some_of (map_at p k) c.requires.map in
+    let some = copied_deep p c.args.depth k (entries_tree (rows_at p c.args.depth k) s.0
+    (placed_rows p c.args.at s.0 c.args.depth s.1 c.requires.depth)) in
+    subst (λ (r : Root). (e : ℕ) × (root_depth q r ≡ Some e)
+    × RemovedLater c.args.depth e q (λ p. placed_levels p c.args.depth k) (root_levels r)) (sym c.give_way.ensures) (
+      left.0,
+      left.1,
+      λ later pre. removed_copied c.args.depth left.0 (placed_levels later c.args.depth k) (seen_levels m later)
+          (root_levels (root_or c.in_ok-end.end (Own n)) later) some
+          (c.in_ok-node.ensures.levels later
+          (prefix_trans (g.C.Chunks.contents c.copied.new.chunks) q later c.remove_root.ensures.grown.0 pre))
+          (subst (λ d. AreRemovedIn d left.0 (seen_levels m later)
+          (root_levels (root_or c.in_ok-end.end (Own n)) later)) deep (left.2 later pre)),
+    )
 
 pub returns-clause-wide : goal.returns-clause-wide
 returns-clause-wide g c w =

@@ -3,13 +3,14 @@ use Rattle.std.specs.Arc.{arc_value}
 use Rattle.commit_graph.specs.Seats.{IsSameSeat, Seated}
 use Rattle.commit_graph.proofs.Seating.{seat-trans}
 use Rattle.group_steps.specs.Missing.{map_ok}
-use Rattle.asked_steps.specs.Tries.{Follows as FollowsRun}
-use Rattle.asked_steps.specs.Tries.{IsArrivedSince, TellsProgress}
+use Rattle.group_steps.specs.Proposing.{AsksNext}
+use Rattle.group_steps.specs.Tries.{Follows as FollowsRun}
+use Rattle.group_steps.specs.Tries.{IsArrivedSince, TellsProgress}
 use Rattle.rebase.specs.Asked.{Tells}
 use Rattle.rebase.specs.Clients.{ClientState, grouped}
 use Rattle.rebase.specs.Replies.{reply_seen}
 use Rattle.rebase.specs.Running.{BeganAs, EndsCall, Follows, IsAsked, UnderWay}
-use Rattle.rebase.proofs.Keeping.{keeps_later}
+use Rattle.rebase.proofs.Keeping.{keeps_found}
 use Rattle.rebase.proofs.Running.{next_shown, progress_none}
 use Rattle.rebase.proofs.asking.Asking.ran.Goals as goal
 
@@ -17,9 +18,11 @@ pub invariant_of-client : goal.invariant_of-client
 invariant_of-client g c =
     let means = g.M.Means.means in let reused = g.S.Slots.reused in
     let k = c.client.inside in let e = c.ran_from-progress.ensures in let new = c.ran_from-progress.new.seat in (
-      keeps_later reused _ k.seat new k.id k.last k.found k.latest e.seat
-          (progress_none means reused c.deref.result.now.shared new c.self.inside.tries c.before-before.result.id
-          c.self.inside.change c.ran_from-progress.result e.stands) c.client.invariant.0,
+      keeps_found reused _ k.seat new k.id k.last k.found k.latest c.ran_from-progress.new.found c.self.inside.change
+          (subst (λ (w : ClientState). AsksNext w.id w.last c.self.inside.change) (sym c.client.view_is)
+          c.self.invariant.2) e.kept e.seat (progress_none g.M.Runs.has means reused c.deref.result.now.shared new
+          c.self.inside.tries k.last c.self.inside.change c.ran_from-progress.result e.stands)
+          c.client.invariant.0,
       λ r no. absurd (cc no),
     )
 
@@ -29,7 +32,7 @@ returns-clause-told g c before began =
     let k = c.client.inside in let e = c.ran_from-progress.ensures in let new = c.ran_from-progress.new.seat in
     let a = c.self.inside in let p = c.ran_from-progress.result in
     let seat = ap (λ (w : ClientState). w.seat) c.client.view_is in
-    let id : c.before-before.result.id ≡ a.client.last = search rules in
+    let id : k.last ≡ a.client.last = search rules in
     let b = subst (BeganAs means reused before) (sym c.self.view_is) began in
     subst (λ (w : UnderWay). Tells c.go_on.result (IsAsked means reused w.tries before w.change)
     (λ client reply. EndsCall means reused w.tries before client w.change (map_ok reply_seen reply)))
@@ -54,7 +57,7 @@ returns-clause-next g c =
       id = k.id;
       last = k.last;
     } in
-    subst (λ (w : UnderWay). Tells c.go_on.result (Follows w c.args.ran) (λ client reply. Unit {0})) c.self.view_is
-    (next_shown a.client client a.change a.tries a.attempt c.args.ran p c.go_on.result c.go_on.ensures.shown
-    (subst (λ (w : Seated). FollowsRun w new a.attempt c.args.ran a.change p)
+    subst (λ (w : UnderWay). Tells c.go_on.result (Follows g.M.Runs.has g.M.Means.means w c.args.ran) (λ client reply. Unit {0})) c.self.view_is
+    (next_shown g.M.Runs.has g.M.Means.means a.client client a.change a.tries a.attempt c.args.ran p c.go_on.result c.go_on.ensures.shown
+    (subst (λ (w : Seated). FollowsRun g.M.Runs.has g.M.Means.means w new a.attempt c.args.ran a.change p)
     (ap (λ (w : ClientState). w.seat) c.client.view_is) c.ran_from-progress.ensures.next))

@@ -27,17 +27,17 @@ returns-in-Err-clause-told g c =
     c.refuse_asked.ensures.told
 
 pub returns-in-Ok-VersionNotSupported-clause-first : goal.returns-in-Ok-VersionNotSupported-clause-first
-returns-in-Ok-VersionNotSupported-clause-first g c = tells_none c.ask_unsupported.result IsFirst _
+returns-in-Ok-VersionNotSupported-clause-first g c = tells_none c.ask_unsupported.result (IsFirst g.M.Runs.has) _
     (c.ask_unsupported.ensures.told c.args.ticket.now.cookie c.args.body.now
     (c.in-Ok-VersionNotSupported.ensures.read ∙ ap Ok c.in-Ok-VersionNotSupported.field-0-is))
 
 pub returns-in-Err-clause-first : goal.returns-in-Err-clause-first
-returns-in-Err-clause-first g c = tells_none c.refuse_asked.result IsFirst _ c.refuse_asked.ensures.told
+returns-in-Err-clause-first g c = tells_none c.refuse_asked.result (IsFirst g.M.Runs.has) _ c.refuse_asked.ensures.told
 
 pub returns-in-Ok-VersionNotSupported-clause-fresh : goal.returns-in-Ok-VersionNotSupported-clause-fresh
-returns-in-Ok-VersionNotSupported-clause-fresh g c = tells_none c.ask_unsupported.result IsUnwritten _
+returns-in-Ok-VersionNotSupported-clause-fresh g c = tells_none c.ask_unsupported.result (IsUnwritten g.M.Runs.has) _
     (c.ask_unsupported.ensures.told c.args.ticket.now.cookie c.args.body.now
     (c.in-Ok-VersionNotSupported.ensures.read ∙ ap Ok c.in-Ok-VersionNotSupported.field-0-is))
 
 pub returns-in-Err-clause-fresh : goal.returns-in-Err-clause-fresh
-returns-in-Err-clause-fresh g c = tells_none c.refuse_asked.result IsUnwritten _ c.refuse_asked.ensures.told
+returns-in-Err-clause-fresh g c = tells_none c.refuse_asked.result (IsUnwritten g.M.Runs.has) _ c.refuse_asked.ensures.told

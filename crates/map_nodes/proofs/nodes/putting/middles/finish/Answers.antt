@@ -7,9 +7,7 @@ use Rattle.map_chunks.specs.Inserting.{Parted}
 use Rattle.map_nodes.specs.Nodes.{Kids, HeadIs, kids_marks, kids_pieces, sunk}
 use Rattle.map_chunks.specs.Shown.{own, Seen}
 use Rattle.map_nodes.specs.declared.nodes.OwnChild.TheVariants.{Own}
-use Rattle.map_nodes.specs.Inside.Counts.{half_fresh}
-use Rattle.map_nodes.proofs.CountLemmas.{entries_fresh, fresh-alone, fresh-halves, fresh-with_half, kept_alone}
-use Rattle.map_nodes.proofs.CountLemmas.{kept_halves}
+use Rattle.map_nodes.proofs.CountLemmas.{kept_alone, kept_halves}
 use Rattle.map_nodes.proofs.KidLemmas.{finished_alone, kid_halves, putting, chosen_are}
 use Rattle.map_nodes.proofs.PathLemmas.{ninth_opened, room_opened}
 use Rattle.map_chunks.proofs.ListLemmas.{length-paired}
@@ -134,48 +132,6 @@ returns-clause-half c copies is firsts =
             (firsts (subst IsSome (sym c.in-Some.is) refl) c.in-Some-pop.first z) full c.in-Some-pop.first (λ y. refl)),
       ),
     )
-
-pub returns-in_default-insert_entry-clause-fresh : goal.returns-in_default-insert_entry-clause-fresh
-returns-in_default-insert_entry-clause-fresh c =
-    let keys = c.args.keys.now.texts in
-    let kids = c.args.kids.now.items in
-    let es : Kids = with_half c.args.place c.args.half (paired keys kids) in
-    let hf : IsHalf (c.requires.fits.split.0 + 1) (c.args.depth - 1) (Some c.in-Some.half) = subst
-    (IsHalf (c.requires.fits.split.0 + 1) (c.args.depth - 1)) c.in-Some.is c.requires.fits.split.1 in
-    let p = putting keys kids c.args.place c.requires.fits.split.0
-    (c.args.depth - 1) c.in-Some.half c.in-Some-pop.first c.pop.new.self.items c.requires.fits.pairs
-    c.requires.fits.within hf c.in-Some-pop.ensures.items in
-    let back : with_half c.args.place (Some c.in-Some.half) (paired keys kids)
-    ≡ es = ap (λ h. with_half c.args.place h (paired keys kids)) (sym c.in-Some.is) in
-    let q : insert (paired keys kids) (c.args.place + 1) (c.in-Some-pop.first, Own c.in-Some.half.node)
-    ≡ es = p.es_is ∙ back in
-    let h = subst (λ (w : Kids). Parted w c.insert_entry.new.keys.texts c.insert_entry.new.entries.items None) q
-    c.in_default-insert_entry.ensures in
-    let m = fresh-with_half keys kids c.args.place c.in-Some.half c.requires.fits.pairs c.requires.fits.within in
-    let n = fresh-alone es c.insert_entry.new.keys.texts c.insert_entry.new.entries.items h in
-    omega (arith, m, n, ap entries_fresh back, ap half_fresh c.in-Some.is)
-
-pub returns-clause-fresh : goal.returns-clause-fresh
-returns-clause-fresh c =
-    let keys = c.args.keys.now.texts in
-    let kids = c.args.kids.now.items in
-    let es : Kids = with_half c.args.place c.args.half (paired keys kids) in
-    let hf : IsHalf (c.requires.fits.split.0 + 1) (c.args.depth - 1) (Some c.in-Some.half) = subst
-    (IsHalf (c.requires.fits.split.0 + 1) (c.args.depth - 1)) c.in-Some.is c.requires.fits.split.1 in
-    let p = putting keys kids c.args.place c.requires.fits.split.0
-    (c.args.depth - 1) c.in-Some.half c.in-Some-pop.first c.pop.new.self.items c.requires.fits.pairs
-    c.requires.fits.within hf c.in-Some-pop.ensures.items in
-    let back : with_half c.args.place (Some c.in-Some.half) (paired keys kids)
-    ≡ es = ap (λ h. with_half c.args.place h (paired keys kids)) (sym c.in-Some.is) in
-    let q : insert (paired keys kids) (c.args.place + 1) (c.in-Some-pop.first, Own c.in-Some.half.node)
-    ≡ es = p.es_is ∙ back in
-    let h = subst (λ (w : Kids). Parted w c.insert_entry.new.keys.texts c.insert_entry.new.entries.items
-    (Some (c.in-Some-insert_entry.upper_keys.texts, c.in-Some-insert_entry.upper.items))) q
-    c.in-Some-insert_entry.ensures in
-    let m = fresh-with_half keys kids c.args.place c.in-Some.half c.requires.fits.pairs c.requires.fits.within in
-    let n = fresh-halves es c.insert_entry.new.keys.texts c.insert_entry.new.entries.items
-    c.in-Some-insert_entry.upper_keys.texts c.in-Some-insert_entry.upper.items h in
-    omega (arith, m, n, ap entries_fresh back, ap half_fresh c.in-Some.is, ap (λ (s : Seen). s.fresh) c.housed.ensures)
 
 pub returns-in_default-clause-parted : goal.returns-in_default-clause-parted
 returns-in_default-clause-parted c =

@@ -1,8 +1,10 @@
 use Rattle.std.proofs.Common.{◌≡◌, ◌<◌, ◌-◌, ℕ, List, [], ◌∷◌, length, arith, refl, subst, sym}
 use Rattle.map_chunks.specs.Places.{AreKept, places_of}
 use Rattle.map_nodes.specs.Inside.Freezing.{child_places, kids_places}
-use Rattle.map_nodes.specs.Inside.Removing.{end_places}
-use Rattle.map_nodes.proofs.EndLemmas.{other_left, heir_taken, kept-start, low_placed, low_taken, taken-places}
+use Rattle.map_nodes.specs.Inside.Removing.{end_places, HeirNarrows}
+use Rattle.map_nodes.specs.declared.nodes.removing.NewRoot.TheVariants as heir
+use Rattle.map_nodes.proofs.EndLemmas.{other_left, heir_taken, kept-start, heir_own, heir_placed, none_left}
+use Rattle.map_nodes.proofs.EndLemmas.{taken-places}
 use Rattle.map_chunks.proofs.KeptLemmas.{kept-none, kept-same, kept-within}
 use Rattle.map_nodes.proofs.NamedLemmas.{kid-within}
 use Rattle.map_nodes.proofs.PlaceLemmas.{kid_all}
@@ -62,20 +64,29 @@ kid_end-requires-clause-places g c =
     kid_all (g.C.Chunks.places c.args.chunks.now) kids
     (1 - c.args.place) c.index.result.now within c.index.ensures c.requires.places
 
-pub returns-in-Some-clause-deep : goal.returns-in-Some-clause-deep
-returns-in-Some-clause-deep g c below h =
+pub returns-in-Some-clause-levels : goal.returns-in-Some-clause-levels
+returns-in-Some-clause-levels g c below h =
     let kids = c.args.kids.now.items in
     let left = other_left kids c.args.place c.index.result.now c.requires.within c.requires.few
     (λ e. c.if-len-eq1.false (let q : c.len.result ≡ 1 = omega (arith, c.len.ensures, e, c.args.kids.now.ok.0) in q))
     c.index.ensures in
-    low_placed (g.C.Chunks.contents c.args.chunks.now)
+    heir_placed (g.C.Chunks.contents c.args.chunks.now)
     (g.C.Chunks.contents c.kid_end.new.chunks) below _ c.index.result.now _ c.in-Some.at left h
-    (c.in_ok-at.ensures.depth below) c.in-Some.is
+    (c.in_ok-at.ensures.levels below) c.in-Some.is
 
-pub returns-in-None-clause-deep : goal.returns-in-None-clause-deep
-returns-in-None-clause-deep g c below h =
+pub returns-in-None-clause-levels : goal.returns-in-None-clause-levels
+returns-in-None-clause-levels g c below h =
     let kids = c.args.kids.now.items in
     let left = other_left kids c.args.place c.swap_remove.result c.requires.within c.requires.few
     (λ e. c.if-len-eq1.false (let q : c.len.result ≡ 1 = omega (arith, c.len.ensures, e, c.args.kids.now.ok.0) in q))
     c.swap_remove.ensures.value in
-    low_taken (g.C.Chunks.contents c.args.chunks.now) below _ c.swap_remove.result c.taken.result left h c.taken.ensures
+    heir_own (g.C.Chunks.contents c.args.chunks.now) (g.C.Chunks.contents c.kid_end.new.chunks) below _
+    c.swap_remove.result c.taken.result left h c.taken.ensures
+
+pub returns-then-len-eq1-clause-levels : goal.returns-then-len-eq1-clause-levels
+returns-then-len-eq1-clause-levels g c below h =
+    let kids = c.args.kids.now.items in
+    subst (λ w. HeirNarrows (g.C.Chunks.contents c.args.chunks.now) below w (heir.Own c.empty.result))
+    (sym (none_left kids c.args.place c.requires.within
+    (let q : length kids ≡ 1 = omega (arith, c.len.ensures, c.if-len-eq1.true, c.args.kids.now.ok.0) in q)))
+    (c.empty.ensures.depth, c.empty.ensures.marks)

@@ -1,7 +1,8 @@
 use Rattle.std.proofs.Common.{[], ◌∷◌, ◌∙◌, sym}
 use Rattle.map_nodes.specs.Inside.Freezing.{child_places}
-use Rattle.map_nodes.proofs.EndLemmas.{kid-end, kid-deep}
-use Rattle.map_chunks.proofs.EndLemmas.{kept-one, no_deeper}
+use Rattle.map_nodes.proofs.EndLemmas.{ends_on, kid-end, kid-ends}
+use Rattle.map_nodes.specs.Nodes.{child_levels}
+use Rattle.map_chunks.proofs.EndLemmas.{kept-one}
 use Rattle.group_history.proofs.Lists.{one_here}
 use Rattle.map_chunks.proofs.KeptLemmas.{kept-none, kept-from_none}
 use Rattle.map_nodes.proofs.nodes.removing.roots.kid_end.Goals as goal
@@ -19,9 +20,10 @@ returns-in-Some-clause-places g c =
     kept-from_none may (child_places c.args.kid.now) (c.in_ok-end-in-Some.end ∷ [])
     (kept-one may c.in_ok-end-in-Some.end c.in_ok-end-in-Some.ensures.place)
 
-pub returns-in-Some-clause-depth : goal.returns-in-Some-clause-depth
-returns-in-Some-clause-depth g c below h v =
-    let k = kid-deep (g.C.Chunks.contents c.args.chunks.now) below c.args.kid.now c.in-Some.at
+pub returns-in-Some-clause-levels : goal.returns-in-Some-clause-levels
+returns-in-Some-clause-levels g c below h v =
+    let p = g.C.Chunks.contents c.args.chunks.now in
+    let k = kid-ends p below c.args.kid.now c.in-Some.at
     (sym c.end_of.ensures.end ∙ c.in-Some.is) c.end_of.ensures.below h v in
-    no_deeper (g.C.Chunks.contents c.end_placed.new.chunks) k.0 below c.in_ok-end-in-Some.end k.2
-    (c.in_ok-end-in-Some.ensures.depth k.0 k.1)
+    ends_on p (g.C.Chunks.contents c.end_placed.new.chunks) below (child_levels below c.args.kid.now) c.in-Some.at
+    c.in_ok-end-in-Some.end c.end_placed.ensures.grown.0 k (c.in_ok-end-in-Some.ensures.depth k.0 k.1)

@@ -7,7 +7,7 @@ use Rattle.map_chunks.specs.Shown.{rows_or, IsTree}
 use Rattle.map_nodes.specs.declared.nodes.Body.TheVariants.{Inner}
 use Rattle.map_chunks.proofs.AnswerLemmas.{if_ok_so}
 use Rattle.map_nodes.proofs.NodeLemmas.{node_down}
-use Rattle.map_nodes.proofs.RemoveLemmas.{fate_later, shown_later}
+use Rattle.map_nodes.proofs.RemoveLemmas.{fate_later, fate_thin, shown_later}
 use Rattle.map_nodes.proofs.ScanLemmas.{kid_shown-at}
 use Rattle.map_chunks.proofs.KeptLemmas.{all_on, grows_on}
 use Rattle.map_nodes.proofs.PlaceLemmas.{kid_all}
@@ -58,6 +58,9 @@ remove_fated-requires-clause-can g c =
           (body_pieces c.args.depth c.args.keys.now.texts (Inner c.args.kids.now)) key c.index-texts-place.result i
           c.index.result.now fate c.fate_of.ensures.grown.0 node.1.2 c.as_slice-texts.ensures
           c.place_of-place.ensures.0 d c.index.ensures c.index-texts-place.is c.in_ok-fate.ensures.fate;
+      thin = fate_thin p q depth keys c.as_slice-texts.result.now (Inner kids) kids
+          (body_pieces depth keys (Inner kids)) key i c.index.result.now fate refl refl node c.as_slice-texts.ensures
+          c.place_of-place.ensures c.index.ensures c.requires.tree (c.in_ok-fate.ensures.thin (depth - 1));
     }
 
 pub returns-clause-done : goal.returns-clause-done

@@ -1,5 +1,5 @@
 use Rattle.std.proofs.Common.{arith, ap}
-use Rattle.map_chunks.specs.Shown.{Seen}
+use Rattle.map_chunks.specs.Shown.{fresh}
 use Rattle.map_nodes.proofs.TrailLemmas.{trail_fresh}
 use Rattle.map_nodes.proofs.nodes.trails.Trail.new_chunks.Goals as goal
 
@@ -9,5 +9,5 @@ returns c = omega (
   c.len.ensures,
   c.self.inside.steps.ok.0,
   trail_fresh c.self.inside.steps.items c.self.inside.end c.self.invariant,
-  ap (λ (s : Seen). s.fresh) c.self.view_is,
+  ap fresh c.self.view_is,
 )

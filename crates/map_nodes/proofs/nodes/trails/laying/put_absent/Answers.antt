@@ -18,7 +18,7 @@ returns-then-is_none c =
     let values = c.in_ok-keys.values in
     let is = c.in_ok-keys.ensures in
     let made = made_longer c.args.down.now.copies rows key value texts values.items c.in_ok-keys.half none is.rows is.half
-    is.leaf.1 is.leaf.2 is.fresh is.entries is.keys in
+    is.leaf.1 is.leaf.2 is.entries is.keys in
     let same : arc_value c.in_ok-keys-2.keys ≡ texts = c.in_ok-keys-2.ensures in
     let end : End = record { keys = c.in_ok-keys-2.keys; values = values } in (
       value,
@@ -51,5 +51,5 @@ returns c =
       no_other _ value none,
       subst (λ n. IsMadeLeaf c.args.down.now.copies rows key value n c.in_ok-keys.half) (sym (c.in_ok-boxed.ensures ∙ c.of_rows-node.ensures))
           (made_longer c.args.down.now.copies rows key value texts values c.in_ok-keys.half none is.rows is.half
-          is.leaf.1 is.leaf.2 is.fresh is.entries is.keys),
+          is.leaf.1 is.leaf.2 is.entries is.keys),
     )

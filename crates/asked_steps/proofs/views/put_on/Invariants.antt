@@ -1,6 +1,0 @@
-use Rattle.map_chunks.specs.Places.{with_nodes}
-use Rattle.asked_steps.proofs.views.put_on.Given as goal
-
--- what is placed, and the draft behind it
-abbrev pub ghosts-put_in : goal.ghosts-put_in
-ghosts-put_in g a = record { known = with_nodes g.K.NamesContents.known a.chunks.draft.now.nodes }

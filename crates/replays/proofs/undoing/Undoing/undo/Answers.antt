@@ -1,9 +1,0 @@
-use Rattle.replays.proofs.UndoLemmas.{undone_next}
-use Rattle.replays.proofs.undoing.Undoing.undo.Goals as goal
-
-pub loop-key-preserved : goal.loop-key-preserved
-loop-key-preserved g c =
-    let shown = g.V.WriteView.contents in
-    undone_next c.loop-key.before.items c.pop.new.self.items c.in-Some.key c.in-Some.there (shown c.loop-key.view)
-    (shown c.put_back.new.view) g.K.NamesMap.start c.loop-key.invariant c.in-Some.ensures.items
-    c.in_ok-put_back.ensures.ok
