@@ -236,7 +236,8 @@ fn report(told: &Told, places: [&mut Place; 2], mut counts: Counts) -> Outcome<(
 
 fn main() -> Outcome<()> {
     let told = Told::of(std::env::args().skip(1))?;
-    let group = Group { id: &told.uuid(0), profile: "demo", schema: "1", rules: RULES, slots: SLOTS };
+    let id = &told.uuid(0);
+    let group = Group { id, profile: "demo", schema: "1", rules: RULES, own_mutators: false, slots: SLOTS };
     let [mut mutating, mut syncing] = group.open()?;
     mutating.sit(&told.uuid(1))?;
     syncing.sit(&told.uuid(2))?;

@@ -18,13 +18,14 @@
  * GIQ_MOVED, GIQ_BUSY or GIQ_GONE. GIQ_STAMPS comes only where all of a group's 2^40 stamps but 2^32 are drawn: a
  * try of a change draws one for each commit and each chunk that it makes.
  *
- * Mutators of the program's own. A group that is opened with own_mutators has no others. Then a mutation, and an end of
- * a pull where mutations stay pending, answer GIQ_ASKED: the program runs the mutator on the run's map, by the calls
- * giq_asked_name to giq_draft_del, and says with giq_ran how that ended; giq_ran answers GIQ_ASKED for the next run, or
- * what the change came to. Until then each other call of the place is refused with GIQ_ASKS, but that the client may
- * leave and the place be closed: then, and by giq_give_up, the change is given up, and nothing was changed. As long
- * as a run is asked for, the slots that other clients let go are kept from use, so a long run can make a busy group
- * full: a run is no place to wait. Where others changed the group first, all runs are asked for anew.
+ * Mutators. A group runs its rules itself, and without own_mutators those of scripts. With own_mutators each name that
+ * has no rule is a mutator of the program's own: a mutation of one, and an end of a pull where such a mutation stays
+ * pending, answer GIQ_ASKED. The program runs the mutator on the run's map, by the calls giq_asked_name to
+ * giq_draft_del, and says with giq_ran how that ended; giq_ran answers GIQ_ASKED for the next run that the group
+ * doesn't make itself, or what the change came to. Until then each other call of the place is refused with GIQ_ASKS,
+ * but that the client may leave and the place be closed: then, and by giq_give_up, the change is given up, and nothing
+ * was changed. As long as a run is asked for, the slots that other clients let go are kept from use, so a long run can
+ * make a busy group full: a run is no place to wait. Where others changed the group first, all runs are asked for anew.
  *
  * Threads. Any thread may open a group. A place is used by one thread at a time, its closing too; it may go from one
  * thread to another where the program orders their calls (a lock, a queue, a join). Places of one group are used by
@@ -211,9 +212,9 @@ typedef struct giq_opening {
     giq_bytes group;       /* the group's ID */
     giq_bytes profile;     /* the profile ID of its requests, UTF-8 */
     giq_bytes schema;      /* the schema version of its requests, UTF-8 */
-    giq_bytes rules;       /* its mutators as a JSON object (docs/RULES.md); no bytes: those of scripts alone */
+    giq_bytes rules;       /* mutators as a JSON object (docs/RULES.md), which it runs itself; no bytes: none */
     uint32_t slots;        /* GIQ_MIN_SLOTS to GIQ_MAX_SLOTS, some 80 bytes each; a group never grows */
-    uint32_t own_mutators; /* 1: its mutators are the program's own, and there are no rules; else 0 */
+    uint32_t own_mutators; /* what a name without a rule is: 0: a mutator of scripts, 1: of the program's own */
 } giq_opening;
 
 /* Which rows: those whose keys begin with the prefix, from the start on, so many at the most. */
@@ -381,8 +382,8 @@ static inline int64_t giq_check_rules(giq_bytes rules, char *text, size_t size) 
 
 /* Opens a group at `count` places, 1 to GIQ_MAX_PLACES, none of which is open; the group is in memory and starts empty.
  * Where it is refused the places are closed: GIQ_BAD_VERSION (see giq_is_of_version), GIQ_BAD_UUID, GIQ_NOT_UTF8,
- * GIQ_BAD_RULES (see giq_check_rules; also rules beside mutators of the program's own), GIQ_OUT_OF_RANGE (slots, places
- * or own_mutators), GIQ_NO_MEMORY. What is proved allows GIQ_BUSY and GIQ_FULL too; no test met them here. */
+ * GIQ_BAD_RULES (see giq_check_rules), GIQ_OUT_OF_RANGE (slots, places or own_mutators), GIQ_NO_MEMORY. What is proved
+ * allows GIQ_BUSY and GIQ_FULL too; no test met them here. */
 static inline int32_t giq_open_places(const giq_opening *with, giq_place *places, size_t count) {
     if (count != 0) memset(places, 0, count * sizeof *places);
     if (!giq_is_of_version()) return GIQ_BAD_VERSION;

@@ -58,18 +58,18 @@ static int32_t mutate(giq_place *place, const char *name, const char *args) {
     return giq_mutate(place, giq_text(name), giq_text(args), 5, &answer);
 }
 
-static void open_group(giq_place *places) {
+static void open_group(giq_place *places, giq_bytes rules) {
     giq_opening opening;
     opening.group = giq_text("00000000-0000-4000-8000-000000000001");
     opening.profile = giq_text("p1");
     opening.schema = giq_text("s1");
-    opening.rules = giq_text("{}");
+    opening.rules = giq_text("{\"a\":[[]]}");
     opening.slots = 1024;
     opening.own_mutators = 2;
     IS(giq_open_places(&opening, places, 2), GIQ_OUT_OF_RANGE);
     opening.own_mutators = 1;
     IS(giq_open_places(&opening, places, 2), GIQ_BAD_RULES);
-    opening.rules = giq_nothing();
+    opening.rules = rules;
     IS(giq_open_places(&opening, places, 2), GIQ_OK);
     IS(giq_sit(&places[0], giq_text(ANNA), &answer), GIQ_OK);
     IS(giq_sit(&places[1], giq_text(BERT), &answer), GIQ_OK);
@@ -183,9 +183,44 @@ static void tickets(giq_place *place) {
     NUMBERS(2);
 }
 
+/* A group with a rule runs it itself, also in a pull, and asks for the names that have none, those of scripts too. */
+static void beside_rules(void) {
+    giq_place places[2];
+    uint32_t ticket;
+    open_group(places, giq_text("{\"add\":[[\"put\",[\"arg\",0],[\"add\",[\"or\",[\"get\",[\"arg\",0]],0],1]]]}"));
+    IS(mutate(&places[0], "add", "[\"r\"]"), GIQ_OK);
+    NUMBERS(1);
+    IS(run(&places[0], mutate(&places[0], "n", "1")), GIQ_OK);
+    IS(mutate(&places[0], "add", "[\"r\"]"), GIQ_OK);
+    NUMBERS(3);
+    IS(run(&places[0], mutate(&places[0], "set", "[\"s\",1]")), GIQ_OK);
+    IS(mutate(&places[0], "add", "[\"n\"]"), GIQ_REFUSED);
+    if (answer.code != 1) fail("code", (long)answer.code);
+    IS(giq_begin_pull(&places[1], &answer), GIQ_OK);
+    ticket = (uint32_t)answer.number;
+    IS(giq_end_pull(&places[1], ticket,
+                    giq_text("{\"cookie\":1,\"lastMutationIDChanges\":{},"
+                             "\"patch\":[{\"op\":\"put\",\"key\":\"r\",\"value\":10}]}"),
+                    &answer), GIQ_ASKED);
+    IS(giq_asked_name(&places[1], &answer), GIQ_OK);
+    TELLS("n");
+    IS(giq_draft_get(&places[1], giq_text("r"), &answer), GIQ_OK);
+    TELLS("11");
+    IS(giq_ran(&places[1], GIQ_RAN_REFUSED, 1, &answer), GIQ_ASKED);
+    IS(giq_asked_name(&places[1], &answer), GIQ_OK);
+    TELLS("set");
+    IS(giq_draft_get(&places[1], giq_text("r"), &answer), GIQ_OK);
+    TELLS("12");
+    IS(giq_ran(&places[1], GIQ_RAN, 0, &answer), GIQ_OK);
+    IS(giq_scan(&places[0], giq_rows(giq_nothing()), &answer), GIQ_OK);
+    TELLS("[[\"r\",12]]");
+    giq_close(&places[0]);
+    giq_close(&places[1]);
+}
+
 int main(void) {
     giq_place places[2];
-    open_group(places);
+    open_group(places, giq_nothing());
     steps(&places[0]);
     no_changes(&places[0]);
     rebase(&places[0], &places[1]);
@@ -195,5 +230,6 @@ int main(void) {
     IS(giq_ran(&places[1], GIQ_RAN, 0, &answer), GIQ_NO_PLACE);
     IS(run(&places[0], mutate(&places[0], "n", "5")), GIQ_OK);
     giq_close(&places[0]);
+    beside_rules();
     return EXIT_SUCCESS;
 }

@@ -1,19 +1,25 @@
--- A call at a spot, by which of the two kinds of desks it has.
-use Rattle.std.proofs.Common.{◌≡◌, ◌∙◌, Bool, List, ap, subst, sym}
+-- A call at a spot is a call at its desk.
+use Rattle.std.proofs.Common.{◌≡◌, List, refl, subst}
+use Rattle.host_places.specs.declared.outcomes.Outcome.{Outcome}
+use Rattle.host_places.specs.Mutators.{Meant, has_of, means_of}
+use Rattle.host_places.specs.Numbers.{MayAnswerNumbers}
 use Rattle.host_places.specs.Places.{DeskState}
+use Rattle.host_places.specs.Told.{told}
 use Rattle.giqaymu_c.specs.declared.jobs.Numbered.{Numbered}
 use Rattle.giqaymu_c.specs.declared.jobs.Reply.{Reply}
-use Rattle.giqaymu_c.specs.Jobs.{Calls, CallsAt, Meant, means_as}
+use Rattle.giqaymu_c.specs.Jobs.{Calls, RepliesAt}
 use Rattle.giqaymu_c.specs.Spots.{SpotState}
 
-abbrev pub spot : DeskState → List DeskState → Bool → SpotState
-spot desk spare own = record { desk = desk; spare = spare; own = own }
+abbrev pub spot : DeskState → List DeskState → SpotState
+spot desk spare = record { desk = desk; spare = spare }
 
-pub calls_of : (meant : Meant) (call : Numbered) (own : Bool) (old new : DeskState) (spare kept : List DeskState)
-    (before after : SpotState) (result reply : Reply) → spot old spare own ≡ before → after ≡ spot new kept own
-    → kept ≡ spare → result ≡ reply → CallsAt own (means_as own meant) call old.place reply new
-    → Calls meant call before result after
-calls_of meant call own old new spare kept before after result reply was is same told called =
-    subst (λ b. Calls meant call b result after) was
-    (subst (λ r. Calls meant call (spot old spare own) r after) (sym told)
-    (record { desk = new; called = called; left = is ∙ ap (λ s. spot new s own) same }))
+pub calls_of : (meant : Meant) (call : Numbered) (outcome : Outcome) (old new : DeskState) (spare : List DeskState)
+    (before : SpotState) (reply : Reply) → spot old spare ≡ before
+    → MayAnswerNumbers (has_of meant) (means_of meant) call.what call.m call.n call.a.now call.b.now old.place
+    (told outcome new.bytes) new.place → RepliesAt outcome new reply → Calls meant call before reply (spot new spare)
+calls_of meant call outcome old new spare before reply was answered tells =
+    subst (λ b. Calls meant call b reply (spot new spare)) was (record {
+      desk = new;
+      called = record { outcome = outcome; answered = answered; told = tells };
+      left = refl;
+    })

@@ -24,29 +24,32 @@ module _ (group : Grouped) (commit : ℕ) (terms : Terms) where
   abbrev Fresh : DeskState → Type 0
   Fresh d = IsNew group commit d.place
 
+  abbrev IsOn : Handle → Type 0
+  IsOn h = (h.text ≡ terms.text) × (h.asks ≡ terms.asks) × (h.own ≡ terms.own)
+
   -- the next place was given, or memory was refused
   abbrev Gave : ℕ → Handle → Handle → ℤ → Type 0
   Gave n next given number = ((number ≡ pos 0) × IsNewPlace group commit terms (n - 1) next
       × IsNewPlace group commit terms 0 given) ⊎ (number ≡ outcome_number (Refused NoMemory))
 
   given_new : (n : ℕ) (next given : Handle) (spot new : SpotState) (reply : Reply) (at : Option SpotState) → 0 < n
-      → IsNew group commit spot.desk.place → length spot.spare ≡ n → All Fresh spot.spare → spot.own ≡ terms.is_own
-      → (next.text ≡ terms.text) × (next.own ≡ terms.own) → (given.text ≡ terms.text) × (given.own ≡ terms.own)
+      → IsNew group commit spot.desk.place → length spot.spare ≡ n → All Fresh spot.spare
+      → IsOn next → IsOn given
       → next.spot ≡ Some new → given.spot ≡ at → Gives spot reply new at → Gave n next given reply.number
-  given_new n next given spot new reply None some desk count all own same other there gives (_, _, inl lack) =
+  given_new n next given spot new reply None some desk count all same other there gives (_, inl lack) =
       inr lack.0.number
-  given_new n next given spot new reply None some desk count all own same other there gives (_, _, inr none) =
+  given_new n next given spot new reply None some desk count all same other there gives (_, inr none) =
       absurd (omega (arith, some, count, ap length none.1))
-  given_new n next given spot new reply (Some one) some desk count all own same other there gives g =
+  given_new n next given spot new reply (Some one) some desk count all same other there gives g =
       let left = All-pop Fresh spot.spare new.spare (Some one.desk) g.2 all in
       let counted : length spot.spare ≡ length new.spare + 1 = ap length g.2 ∙ length_push new.spare one.desk in inl (
         g.0.0.number,
         record {
           text_is = same.0;
-          own_is = same.1;
+          asks_is = same.1;
+          own_is = same.2;
           spot = new;
           there = there;
-          is_own = g.5 ∙ own;
           new = subst Fresh (sym g.1) desk;
           count = omega arith;
           all =
@@ -54,10 +57,10 @@ module _ (group : Grouped) (commit : ℕ) (terms : Terms) where
         },
         record {
           text_is = other.0;
-          own_is = other.1;
+          asks_is = other.1;
+          own_is = other.2;
           spot = one;
           there = gives;
-          is_own = g.4 ∙ own;
           new = left.1;
           count = ap length g.3;
           all =
@@ -70,8 +73,9 @@ module _ (group : Grouped) (commit : ℕ) (terms : Terms) where
       → Gave n next given reply.number
   gave n first next given reply some is same other gives =
       let g = subst (λ s. HasGiven s reply next.spot given.spot) is.there gives in
-      given_new n next given is.spot g.0 reply given.spot some is.new is.count is.all is.is_own
-      (same.0 ∙ is.text_is, same.1 ∙ is.own_is) (other.0 ∙ is.text_is, other.1 ∙ is.own_is) g.1 refl g.2
+      given_new n next given is.spot g.0 reply given.spot some is.new is.count is.all
+      (same.0 ∙ is.text_is, same.1 ∙ is.asks_is, same.2 ∙ is.own_is)
+      (other.0 ∙ is.text_is, other.1 ∙ is.asks_is, other.2 ∙ is.own_is) g.1 refl g.2
 
   pub gave_next : (n : ℕ) (first next given : Handle) (reply : Reply) → 0 < n → IsNewPlace group commit terms n first
       → IsLike first next → IsLike first given → HasGiven first.spot reply next.spot given.spot

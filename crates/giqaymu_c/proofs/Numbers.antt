@@ -163,9 +163,9 @@ want_no grounds e (inr is) =
     subst (Fine (HasSeats w.places)) is (layout_fine w.id.now w.profile.now w.schema.now w.slots w.places)
 
 mutators_no : (grounds : Grounds) (e : Outcome) → IsMutatorsRefusal grounds e → IsNo e
-mutators_no grounds e (inl (own, is)) = subst (Fine {X = Rules} (λ _. ⊤)) is (rules_fine grounds.rules.now)
-mutators_no grounds e (inr (inl (own, some, is))) = subst IsNo (sym is) tt
-mutators_no grounds e (inr (inr (own, is))) = subst IsNo (sym is) tt
+mutators_no grounds e (inl (inl is)) = subst IsNo (sym is) tt
+mutators_no grounds e (inl (inr is)) = subst (Fine {X = Rules} (λ _. ⊤)) is (rules_fine grounds.rules.now)
+mutators_no grounds e (inr (own, is)) = subst IsNo (sym is) tt
 
 pub opening_no : (grounds : Grounds) (e : Outcome) → IsOpeningRefusal grounds e → IsNo e
 opening_no grounds e (inl want) = want_no grounds e want

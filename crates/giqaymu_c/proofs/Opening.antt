@@ -1,7 +1,7 @@
 -- Places that are opened.
 use Rattle.std.proofs.Common.{◌≡◌, ◌⊎◌, ◌+◌, ◌-◌, ◌<◌, ◌≤◌, inl, inr, ℕ, zero, suc, List, [], ◌∷◌, ◌++◌, map, Option}
 use Rattle.std.proofs.Common.{Some, None, Ok, length, refl, sym, ap, ◌∙◌, subst, arith, w32}
-use Rattle.std.specs.Prelude.{ℤ, pos, Bool, true, false, IfSome, slice_get, slice_index_or, slice_set}
+use Rattle.std.specs.Prelude.{ℤ, pos, IsOk, IfSome, slice_get, slice_index_or, slice_set}
 use Rattle.std.specs.List.{All}
 use Rattle.std.proofs.lemmas.List.{get_or-map, get_or-set_same, get_or-set_other, length-map, length-set, length_push}
 use Rattle.std.proofs.lemmas.List.Elements.{All-pop}
@@ -19,9 +19,9 @@ use Rattle.giqaymu_c.specs.declared.jobs.Grounds.{Grounds}
 use Rattle.giqaymu_c.specs.declared.jobs.Reply.{Reply}
 use Rattle.giqaymu_c.proofs.Numbers.{Fine, HasSeats, IsBelow, below_bits, below_kept, below_zero, layout_fine, no_below}
 use Rattle.giqaymu_c.proofs.Numbers.{opening_no}
-use Rattle.giqaymu_c.specs.Exports.{AreMutators, AreNew, AreOpenedFor, Terms, IsGivenOut, IsNewPlace}
+use Rattle.giqaymu_c.specs.Exports.{AreNew, AreOpenedFor, Terms, IsGivenOut, IsNewPlace}
 use Rattle.giqaymu_c.specs.Exports.{IsOpeningFault}
-use Rattle.giqaymu_c.specs.Jobs.{HasOpened, Opens, OpensAll}
+use Rattle.giqaymu_c.specs.Jobs.{HasOpened, Opens, OpensAll, asks_meant, rules_given}
 use Rattle.giqaymu_c.specs.Own.{Run}
 use Rattle.giqaymu_c.specs.Spots.{SpotState}
 
@@ -76,11 +76,14 @@ unmap P ds all = λ i d low.
     subst P (get_or-map (λ (x : DeskState). x.place) ds i d d.place low)
     (all i d.place (subst (λ n. i < n) (sym (length-map ds (λ (x : DeskState). x.place))) low))
 
+-- a place of a group that was opened on these terms
+abbrev IsOn : Terms → Handle → Type 0
+IsOn terms h = (h.text ≡ terms.text) × (h.asks ≡ terms.asks) × (h.own ≡ terms.own)
+
 first_new : (grounds : Grounds) (terms : Terms) (n : ℕ) (first : Handle) (spot : SpotState)
-    → grounds.with.places ≡ n → (first.text ≡ terms.text) × (first.own ≡ terms.own) → first.spot ≡ Some spot
-    → spot.own ≡ terms.is_own → (o : OpensAll grounds spot)
+    → grounds.with.places ≡ n → IsOn terms first → first.spot ≡ Some spot → (o : OpensAll grounds spot)
     → IsNewPlace o.opened.group o.opened.commit terms (n - 1) first
-first_new grounds terms n first spot places same there own o =
+first_new grounds terms n first spot places same there o =
     let Fresh : DeskState → Type 0 = λ d. IsNew o.opened.group o.opened.commit d.place in
     let all = unmap (IsNew o.opened.group o.opened.commit) (spot.spare ++ spot.desk ∷ []) o.opened.all in
     let parts = All-pop Fresh (spot.spare ++ spot.desk ∷ []) spot.spare (Some spot.desk) refl all in
@@ -92,10 +95,10 @@ first_new grounds terms n first spot places same there own o =
     (λ (d : DeskState). d.place)) ∙ o.opened.count ∙ seats.0 ∙ places in
     record {
       text_is = same.0;
-      own_is = same.1;
+      asks_is = same.1;
+      own_is = same.2;
       spot = spot;
       there = there;
-      is_own = own;
       new = parts.1;
       count = omega (arith, counted);
       all = parts.0;
@@ -112,63 +115,51 @@ each_new group commit terms n places last some count is are (suc i) low d =
     (sym (get_or-set_other places 0 (suc i) last d (λ e. absurd (omega (arith, e)))))
     (are (suc i) (omega arith) (omega (arith, count, subst (λ k. suc i < k) (length-set places 0 last) low)) d)
 
-abbrev terms_of : Grounds → List Run → Bool → Terms
-terms_of grounds own is_own = record { text = grounds.rules.now; is_own = is_own; own = own }
+abbrev terms_of : Grounds → List Run → Terms
+terms_of grounds own = record { text = grounds.rules.now; asks = asks_meant grounds.own; own = own }
 
 -- the first place has all of a group that was opened with these grounds
 record First (grounds : Grounds) (own : List Run) (n : ℕ) (first : Handle) : Type 0 where
   layout : Layout
   said : layout_said grounds.with.id.now grounds.with.profile.now grounds.with.schema.now grounds.with.slots
       grounds.with.places ≡ Ok layout
-  is_own : Bool
-  mutators : AreMutators grounds.own grounds.rules.now is_own
+  rules : IsOk (rules_given grounds.rules.now)
+  known : grounds.own < 2
   group : Grouped
   commit : ℕ
   identity : group.identity ≡ layout.identity
   sizes : group.group.table.sizes ≡ record { readers = layout.seats; slots = layout.slots }
-  new : IsNewPlace group commit (terms_of grounds own is_own) (n - 1) first
+  new : IsNewPlace group commit (terms_of grounds own) (n - 1) first
 
--- with mutators of either kind
-first_of : (grounds : Grounds) (own : List Run) (is_own : Bool) (n : ℕ) (first : Handle) (spot : SpotState)
-    → grounds.with.places ≡ n → (first.text ≡ grounds.rules.now) × (first.own ≡ own) → first.spot ≡ Some spot
-    → OpensAll grounds spot → AreMutators grounds.own grounds.rules.now is_own → spot.own ≡ is_own
-    → First grounds own n first
-first_of grounds own is_own n first spot room same there o mutators kind = record {
+first_of : (grounds : Grounds) (own : List Run) (n : ℕ) (first : Handle) (spot : SpotState) → grounds.with.places ≡ n
+    → IsOn (terms_of grounds own) first → first.spot ≡ Some spot → Opens grounds spot → First grounds own n first
+first_of grounds own n first spot room same there (o, rules, known) = record {
   layout = o.layout;
   said = o.said;
-  is_own = is_own;
-  mutators = mutators;
+  rules = rules;
+  known = known;
   group = o.opened.group;
   commit = o.opened.commit;
   identity = o.opened.identity;
   sizes = o.opened.sizes;
-  new = first_new grounds (terms_of grounds own is_own) n first spot room same there
-      kind o;
+  new = first_new grounds (terms_of grounds own) n first spot room same there o;
 }
 
 first_opened : (grounds : Grounds) (own : List Run) (n : ℕ) (first : Handle) (z : ℤ) → grounds.with.places ≡ n
-    → (first.text ≡ grounds.rules.now) × (first.own ≡ own)
+    → IsOn (terms_of grounds own) first
     → (reply : Reply) × (z ≡ reply.number) × HasOpened grounds reply first.spot → of_z w32 z ≡ 0
     → First grounds own n first
 first_opened grounds own n first z room same (reply, told, has) done = by_cases first.spot refl has where
-  by_kind : (spot : SpotState) → first.spot ≡ Some spot → Opens grounds spot → First grounds own n first
-  by_kind spot there (inl (says, (o, ok, kind))) =
-      first_of grounds own false n first spot room same there o
-      (subst (λ k. AreMutators k grounds.rules.now false) (sym says) (ok, refl)) kind
-  by_kind spot there (inr (says, (o, empty, kind))) =
-      first_of grounds own true n first spot room same there o
-      (subst (λ k. AreMutators k grounds.rules.now true) (sym says) (refl, empty, refl)) kind
-
   by_cases : (at : Option SpotState) → first.spot ≡ at → HasOpened grounds reply at → First grounds own n first
   by_cases None there (e, tells, why) =
       let below = no_below e (opening_no grounds e why) in
       below_bits z (below.0, told ∙ tells.0.number ∙ below.1, below.2) done
-  by_cases (Some spot) there (tells, o) = by_kind spot there o
+  by_cases (Some spot) there (tells, o) = first_of grounds own n first spot room same there o
 
 -- each is given out
 pub opened_all : (grounds : Grounds) (own : List Run) (n : ℕ) (first last put : Handle) (z given : ℤ)
     (places : List Handle) → 0 < n → grounds.with.places ≡ n → length places ≡ n → put ≡ last
-    → (first.text ≡ grounds.rules.now) × (first.own ≡ own)
+    → IsOn (terms_of grounds own) first
     → (reply : Reply) × (z ≡ reply.number) × HasOpened grounds reply first.spot → of_z w32 z ≡ 0
     → IsGivenOut n first last given places → to_z w32 (of_z w32 given) ≡ pos 0
     → AreOpenedFor grounds own (slice_set places 0 put)
@@ -176,8 +167,8 @@ opened_all grounds own n first last put z given places some room count is same o
     let f = first_opened grounds own n first z room same opened done in
     subst (λ h. AreOpenedFor grounds own (slice_set places 0 h)) (sym is) (by_cases f (out _ _ _ f.new)) where
       by_cases : (f : First grounds own n first) → ((given ≡ pos 0)
-          × IsNewPlace f.group f.commit (terms_of grounds own f.is_own) 0 last
-          × AreNew f.group f.commit (terms_of grounds own f.is_own) n places)
+          × IsNewPlace f.group f.commit (terms_of grounds own) 0 last
+          × AreNew f.group f.commit (terms_of grounds own) n places)
           ⊎ (given ≡ outcome_number (Refused NoMemory)) → AreOpenedFor grounds own (slice_set places 0 last)
       by_cases f (inr lack) =
           let at : IsBelow given = (0, lack, omega arith) in
@@ -185,8 +176,8 @@ opened_all grounds own n first last put z given places some room count is same o
       by_cases f (inl (free, new, all)) = record {
         layout = f.layout;
         said = f.said;
-        is_own = f.is_own;
-        mutators = f.mutators;
+        rules = f.rules;
+        known = f.known;
         given = record {
           group = f.group;
           commit = f.commit;
@@ -198,7 +189,7 @@ opened_all grounds own n first last put z given places some room count is same o
 
 -- or memory was refused
 pub giving_refused : (grounds : Grounds) (own : List Run) (n : ℕ) (first last : Handle) (z given : ℤ)
-    (places : List Handle) → grounds.with.places ≡ n → (first.text ≡ grounds.rules.now) × (first.own ≡ own)
+    (places : List Handle) → grounds.with.places ≡ n → IsOn (terms_of grounds own) first
     → (reply : Reply) × (z ≡ reply.number) × HasOpened grounds reply first.spot → of_z w32 z ≡ 0
     → IsGivenOut n first last given places → (to_z w32 (of_z w32 given) ≡ pos 0 → ⊥)
     → IsOpeningFault grounds (to_z w32 (of_z w32 given))

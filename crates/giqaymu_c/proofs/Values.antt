@@ -166,10 +166,18 @@ handle_good p k fits = (
 )
 
 module _ {M : Type 1} {𝓤 : Ura M} {𝓛 : Logic 𝓤} {K : Type 0} {Γ : List (Item 𝓤)} {G : Goal 𝓤 𝓛.H} where
-  pub handle_in : K → (p : Ptr) (k : ℕ) (text : Bytes) (own : List Run) (v : Option SpotState) → k < 2 ^ 64
-      → Step K 𝓛 (‵ ((handle.the_row).own_val (record { at = p; is_open = k; text = text; own = own; spot = v })
-      (marked p k ∷ [])) ∷ Γ) G (‵ (place_owns text own k p v) ∷ Γ) G
-  handle_in t p k text own v fits = step (λ s. let w : Val = marked p k in
+  pub handle_in : K → (p : Ptr) (k : ℕ) (text : Bytes) (asks : Bool) (own : List Run) (v : Option SpotState)
+      → k < 2 ^ 64
+      → Step K 𝓛 (‵ ((handle.the_row).own_val (record {
+        at = p;
+        is_open = k;
+        text = text;
+        asks = asks;
+        own = own;
+        spot = v;
+      })
+      (marked p k ∷ [])) ∷ Γ) G (‵ (place_owns text asks own k p v) ∷ Γ) G
+  handle_in t p k text asks own v fits = step (λ s. let w : Val = marked p k in
       nothing t $ owned t u64 (Is u64) (uint_Makes 𝓛 w64) k (vint w64 k ∷ []) (refl, fits) $ fjoin t $
       feq_i t (List Val) (ptr_val p ∷ []) (ptr_val p ∷ []) refl $ fjoin t $ feq_i t (List Val) (w ∷ []) (w ∷ []) refl $
       fjoin t $
@@ -178,7 +186,7 @@ module _ {M : Type 1} {𝓤 : Ura M} {𝓛 : Logic 𝓤} {K : Type 0} {Γ : List
 
   pub handle_out : K → (d : (handle.the_row).Denot) (vs : List Val)
       → (d.is_open < 2 ^ 64 → vs ≡ marked d.at d.is_open ∷ []
-      → Seq K 𝓛 (‵ (place_owns d.text d.own d.is_open d.at d.spot) ∷ Γ) G)
+      → Seq K 𝓛 (‵ (place_owns d.text d.asks d.own d.is_open d.at d.spot) ∷ Γ) G)
       → Seq K 𝓛 (‵ ((handle.the_row).own_val d vs) ∷ Γ) G
   handle_out t d vs k =
       fsplit t $ fpick t (λ vss. fsplit t $ feq_l t (λ ev. fsplit t $ feq_l t (λ ep. fsplit t $ fsplit t $

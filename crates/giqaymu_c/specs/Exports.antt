@@ -1,5 +1,5 @@
 -- What the functions that C calls answer.
-use Rattle.std.specs.Prelude.{ℕ, zero, suc, ℤ, pos, ◌≡◌, ◌⊎◌, ◌-◌, ◌<◌, Bool, true, false, List, [], length}
+use Rattle.std.specs.Prelude.{ℕ, ℤ, pos, ◌≡◌, ◌⊎◌, ◌-◌, ◌<◌, Bool, List, length}
 use Rattle.std.specs.Prelude.{slice_index_or, Option, Some, Ok, IsOk}
 use Rattle.std.specs.List.{All}
 use Rattle.group_history.specs.declared.refusals.Refusal.TheVariants.{NoMemory}
@@ -7,6 +7,7 @@ use Rattle.group_history.specs.Map.{Bytes}
 use Rattle.host_places.specs.declared.faults.Fault.TheVariants.{OutOfRange}
 use Rattle.host_places.specs.declared.outcomes.Outcome.{Outcome}
 use Rattle.host_places.specs.declared.outcomes.Outcome.TheVariants.{Faulty, Refused}
+use Rattle.host_places.specs.Mutators.{Meant}
 use Rattle.host_places.specs.Numbers.{outcome_number}
 use Rattle.host_places.specs.Opening.{IsNew, layout_said}
 use Rattle.rebase.specs.Clients.{Grouped}
@@ -17,7 +18,7 @@ use Rattle.giqaymu_c.specs.declared.handle.Handle.{Handle}
 use Rattle.giqaymu_c.specs.declared.jobs.Grounds.{Grounds}
 use Rattle.giqaymu_c.specs.declared.jobs.Numbered.{Numbered}
 use Rattle.giqaymu_c.specs.declared.jobs.Reply.{Reply}
-use Rattle.giqaymu_c.specs.Jobs.{HasCalled, IsOpeningRefusal, Meant, rules_given}
+use Rattle.giqaymu_c.specs.Jobs.{HasCalled, IsOpeningRefusal, asks_meant, rules_given}
 use Rattle.giqaymu_c.specs.Own.{Run}
 use Rattle.giqaymu_c.specs.Spots.{SpotState}
 
@@ -48,24 +49,24 @@ pub record IsCalled (meant : Meant) (what m n : ℕ) (a b : Bytes) (before : Opt
 
 -- it is a place of a group that was opened as the other one was, or closed with the same ghost data
 abbrev pub IsLike : Handle → Handle → Type 0
-IsLike one other = (other.text ≡ one.text) × (other.own ≡ one.own)
+IsLike one other = (other.text ≡ one.text) × (other.asks ≡ one.asks) × (other.own ≡ one.own)
 
 -- ---- opening
 
--- the terms on which a group was opened: the text of its rules; whether its mutators are the host's own, and their runs
+-- the terms on which a group was opened: the text of its rules; whether the host has mutators of its own, and their runs
 pub record Terms : Type 0 where
   pub text : Bytes
-  pub is_own : Bool
+  pub asks : Bool
   pub own : List Run
 
 -- A new place of a group that was opened on these terms: nobody sits there. It has so many places of the group that
 -- are not given out yet.
 pub record IsNewPlace (group : Grouped) (commit : ℕ) (terms : Terms) (spare : ℕ) (h : Handle) : Type 0 where
   pub text_is : h.text ≡ terms.text
+  pub asks_is : h.asks ≡ terms.asks
   pub own_is : h.own ≡ terms.own
   pub spot : SpotState
   pub there : h.spot ≡ Some spot
-  pub is_own : spot.own ≡ terms.is_own
   pub new : IsNew group commit spot.desk.place
   pub count : length spot.spare ≡ spare
   pub all : All (λ d. IsNew group commit d.place) spot.spare
@@ -91,19 +92,14 @@ pub record AreGivenOut (layout : Layout) (terms : Terms) (places : List Handle) 
   pub sizes : group.group.table.sizes ≡ record { readers = layout.seats; slots = layout.slots }
   pub each : (i : ℕ) → i < length places → (d : Handle) → IsNewPlace group commit terms 0 (slice_index_or places i d)
 
--- rules are rules; and with mutators of the host's own there are none
-abbrev pub AreMutators : ℕ → Bytes → Bool → Type 0
-AreMutators zero text is_own = IsOk (rules_given text) × (is_own ≡ false)
-AreMutators (suc n) text is_own = (n ≡ 0) × (text ≡ []) × (is_own ≡ true)
-
 -- with these grounds, where the host's own mutators have these runs
 pub record AreOpenedFor (grounds : Grounds) (own : List Run) (places : List Handle) : Type 0 where
   pub layout : Layout
   pub said : layout_said grounds.with.id.now grounds.with.profile.now grounds.with.schema.now grounds.with.slots
       grounds.with.places ≡ Ok layout
-  pub is_own : Bool
-  pub mutators : AreMutators grounds.own grounds.rules.now is_own
-  pub given : AreGivenOut layout (record { text = grounds.rules.now; is_own = is_own; own = own }) places
+  pub rules : IsOk (rules_given grounds.rules.now)
+  pub known : grounds.own < 2
+  pub given : AreGivenOut layout (record { text = grounds.rules.now; asks = asks_meant grounds.own; own = own }) places
 
 abbrev pub IsOpeningFault : Grounds → ℤ → Type 0
 IsOpeningFault grounds number = (e : Outcome) × (number ≡ outcome_number e) × IsOpeningRefusal grounds e

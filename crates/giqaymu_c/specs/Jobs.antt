@@ -1,13 +1,11 @@
 -- What is done to a place of a host.
-use Rattle.std.specs.Prelude.{ℕ, ◌≡◌, ◌≢◌, ◌⊎◌, ◌++◌, ◌∷◌, ◌<◌, ⊤, [], Bool, true, false, List, length, Option}
+use Rattle.std.specs.Prelude.{ℕ, zero, suc, ◌≡◌, ◌⊎◌, ◌++◌, ◌∷◌, ◌<◌, ⊤, [], Bool, true, false, List, length, Option}
 use Rattle.std.specs.Prelude.{Some, None}
 use Rattle.std.specs.Prelude.{Result, Ok, Err, IsOk, IfSome}
 use Rattle.group_history.specs.declared.refusals.Refusal.TheVariants.{NoMemory, NoSeat}
 use Rattle.group_history.specs.Map.{Bytes}
-use Rattle.group_history.specs.Meaning.{Meanings}
 use Rattle.rebase.specs.Configs.{Layout}
 use Rattle.rule_mutators.specs.declared.faults.RuleFault.{RuleFault}
-use Rattle.rule_mutators.specs.Meaning.{rules_mean}
 use Rattle.rule_mutators.specs.Reading.{rules_or_none}
 use Rattle.rule_mutators.specs.Rules.{Rules}
 use Rattle.host_places.specs.declared.faults.Fault.TheVariants as fault
@@ -16,6 +14,7 @@ use Rattle.host_places.specs.declared.outcomes.Outcome.TheVariants.{Done, Faulty
 use Rattle.host_places.specs.Numbers.{MayAnswerNumbers, outcome_code, outcome_number, outcome_value}
 use Rattle.host_places.specs.Opening.{AreOpened, IsWant, layout_said}
 use Rattle.host_places.specs.Asking.{ran_said}
+use Rattle.host_places.specs.Mutators.{Meant, has_of, means_of}
 use Rattle.host_places.specs.Places.{DeskState, PlaceState}
 use Rattle.host_places.specs.Runs.{IsRunTold}
 use Rattle.host_places.specs.Told.{told}
@@ -54,38 +53,39 @@ abbrev pub text_for : Job → Bytes
 text_for (job.Open grounds) = grounds.rules.now
 text_for other = []
 
+-- whether names without a rule are those of the host's own mutators, as a group is opened
+abbrev pub asks_meant : ℕ → Bool
+asks_meant zero = false
+asks_meant (suc n) = true
+
+abbrev pub asks_for : Job → Bool
+asks_for (job.Open grounds) = asks_meant grounds.own
+asks_for other = false
+
 -- ---- what mutators mean
 
--- what the mutators mean of a group at a place: its rules; and the host's own, where they are that
-pub record Meant : Type 0 where
-  pub rules : Rules
-  pub own : Meanings
-
-abbrev pub meant_by : Rules → Meanings → Meant
-meant_by rules own = record { rules = rules; own = own }
-
 -- at a place that was opened by the rules of this text, and where the host's own mutators have these runs
-abbrev pub meant_at : Bytes → List Run → Meant
-meant_at text own = meant_by (rules_meant text) (runs_mean own)
+abbrev pub meant_at : Bytes → Bool → List Run → Meant
+meant_at text asks own = record { rules = rules_meant text; asks = asks; own = runs_mean own }
 
--- as the group is of the host's own mutators, or not
-abbrev pub means_as : Bool → Meant → Meanings
-means_as true meant = meant.own
-means_as false meant = rules_mean meant.rules
+-- these are the mutators that a group is opened with
+abbrev pub IsMeantBy : Grounds → Meant → Type 0
+IsMeantBy grounds meant = (meant.rules ≡ rules_meant grounds.rules.now) × (meant.asks ≡ asks_meant grounds.own)
 
 -- The premise of a host's own mutators, of the call with these numbers at a place: where it tells that a run has ended
--- (23), the run is one of their meaning. Any other call, and any at a place with rules, has none.
-abbrev pub IsToldByNumbers : Meanings → ℕ → ℕ → ℕ → SpotState → Type 0
-IsToldByNumbers own what m n spot = spot.own ≡ true → what ≡ 23
-    → IsRunTold own spot.desk.place.asking (ran_said m n)
+-- (23), the run is one of their meaning. Any other call, and any at a place of a host without mutators of its own, has
+-- none.
+abbrev pub IsToldByNumbers : Meant → ℕ → ℕ → ℕ → SpotState → Type 0
+IsToldByNumbers meant what m n spot = what ≡ 23
+    → IsRunTold (has_of meant) (means_of meant) spot.desk.place.asking (ran_said m n)
 
-abbrev pub IsToldAsMeant : Meanings → Numbered → SpotState → Type 0
-IsToldAsMeant own call spot = IsToldByNumbers own call.what call.m call.n spot
+abbrev pub IsToldAsMeant : Meant → Numbered → SpotState → Type 0
+IsToldAsMeant meant call spot = IsToldByNumbers meant call.what call.m call.n spot
 
--- A job fits at a place: a group is opened by the rules that it comes with, and a run is told of as it was.
+-- A job fits at a place: a group is opened with the mutators that it comes with, and a run is told of as it was.
 abbrev pub IsFit : Job → Meant → Option SpotState → Type 0
-IsFit (job.Open grounds) meant spot = meant.rules ≡ rules_meant grounds.rules.now
-IsFit (job.Call call) meant spot = IfSome spot (IsToldAsMeant meant.own call)
+IsFit (job.Open grounds) meant spot = IsMeantBy grounds meant
+IsFit (job.Call call) meant spot = IfSome spot (IsToldAsMeant meant call)
 IsFit other meant spot = ⊤
 
 -- ---- replies
@@ -115,16 +115,9 @@ pub record OpensAll (grounds : Grounds) (spot : SpotState) : Type 0 where
       grounds.with.places ≡ Ok layout
   pub opened : AreOpened layout (places_of spot)
 
--- by rules
-abbrev pub OpensRules : Grounds → SpotState → Type 0
-OpensRules grounds spot = OpensAll grounds spot × IsOk (rules_given grounds.rules.now) × (spot.own ≡ false)
-
--- for mutators of the host's own
-abbrev pub OpensOwn : Grounds → SpotState → Type 0
-OpensOwn grounds spot = OpensAll grounds spot × (grounds.rules.now ≡ []) × (spot.own ≡ true)
-
+-- by its rules, and mutators of the host's own or none
 abbrev pub Opens : Grounds → SpotState → Type 0
-Opens grounds spot = ((grounds.own ≡ 0) × OpensRules grounds spot) ⊎ ((grounds.own ≡ 1) × OpensOwn grounds spot)
+Opens grounds spot = OpensAll grounds spot × IsOk (rules_given grounds.rules.now) × (grounds.own < 2)
 
 -- it is refused for want of something, or since its ID, a text or a number says nothing
 abbrev pub IsOpeningWant : Grounds → Outcome → Type 0
@@ -132,11 +125,9 @@ IsOpeningWant grounds e = IsWant e
     ⊎ (layout_said grounds.with.id.now grounds.with.profile.now grounds.with.schema.now grounds.with.slots
     grounds.with.places ≡ Err e)
 
--- or since the rules say nothing, or are there where the mutators are the host's own, or since neither is said
+-- or since the rules say nothing, or since it isn't said whether the host has mutators of its own
 abbrev pub IsMutatorsRefusal : Grounds → Outcome → Type 0
-IsMutatorsRefusal grounds e = ((grounds.own ≡ 0) × (rules_given grounds.rules.now ≡ Err e))
-    ⊎ ((grounds.own ≡ 1) × (grounds.rules.now ≢ []) × (e ≡ Faulty fault.BadRules))
-    ⊎ ((1 < grounds.own) × (e ≡ Faulty fault.OutOfRange))
+IsMutatorsRefusal grounds e = IsRulesRefusal grounds.rules.now e ⊎ ((1 < grounds.own) × (e ≡ Faulty fault.OutOfRange))
 
 abbrev pub IsOpeningRefusal : Grounds → Outcome → Type 0
 IsOpeningRefusal grounds e = IsOpeningWant grounds e ⊎ IsMutatorsRefusal grounds e
@@ -148,17 +139,17 @@ HasOpened grounds reply None = (e : Outcome) × RepliesBare e reply × IsOpening
 -- ---- calls
 
 -- the call is answered at the desk, and the reply says where the bytes lie
-pub record CallsAt (asks : Bool) (means : Meanings) (call : Numbered) (before : PlaceState) (reply : Reply)
+pub record CallsAt (meant : Meant) (call : Numbered) (before : PlaceState) (reply : Reply)
     (after : DeskState) : Type 0 where
   pub outcome : Outcome
-  pub answered : MayAnswerNumbers asks means call.what call.m call.n call.a.now call.b.now before
+  pub answered : MayAnswerNumbers (has_of meant) (means_of meant) call.what call.m call.n call.a.now call.b.now before
       (told outcome after.bytes) after.place
   pub told : RepliesAt outcome after reply
 
 pub record Calls (meant : Meant) (call : Numbered) (before : SpotState) (reply : Reply)
     (after : SpotState) : Type 0 where
   pub desk : DeskState
-  pub called : CallsAt before.own (means_as before.own meant) call before.desk.place reply desk
+  pub called : CallsAt meant call before.desk.place reply desk
   pub left : after ≡ record before { desk = desk }
 
 abbrev pub HasCalled : Meant → Numbered → Option SpotState → Reply → Option SpotState → Type 0
@@ -170,11 +161,10 @@ HasCalled meant call (Some spot) reply after = (new : SpotState) × Calls meant 
 -- One of the desks that were not given out yet is given to another place; or none, since there is none, or since memory
 -- was refused.
 abbrev pub Gives : SpotState → Reply → SpotState → Option SpotState → Type 0
-Gives before reply after None = (after.desk ≡ before.desk) × (after.own ≡ before.own)
+Gives before reply after None = (after.desk ≡ before.desk)
     × (RepliesBare (Refused NoMemory) reply ⊎ (RepliesBare (Refused NoSeat) reply × (before.spare ≡ [])))
 Gives before reply after (Some spot) = RepliesBare Done reply × (after.desk ≡ before.desk)
-    × (before.spare ≡ after.spare ++ spot.desk ∷ []) × (spot.spare ≡ []) × (spot.own ≡ before.own)
-    × (after.own ≡ before.own)
+    × (before.spare ≡ after.spare ++ spot.desk ∷ []) × (spot.spare ≡ [])
 
 abbrev pub HasGiven : Option SpotState → Reply → Option SpotState → Option SpotState → Type 0
 HasGiven None reply after given = RepliesBare (Faulty fault.NoPlace) reply × (after ≡ None) × (given ≡ None)

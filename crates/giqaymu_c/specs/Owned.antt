@@ -1,13 +1,13 @@
 -- What memory a place of a host has.
-use Rattle.std.specs.Prelude.{ℕ, zero, suc, List, [], Option, Some, None}
+use Rattle.std.specs.Prelude.{ℕ, Bool, zero, suc, List, [], Option, Some, None}
 use Rattle.std.specs.Box.Ownership.{box_owns}
 use Rattle.std.specs.contracts.marker.Brand as Brand
 use Rattle.std.specs.Global.{Global}
 use Rattle.std.specs.contracts.impls.GlobalAllocator.TheImpl.{ghosts}
 use Rattle.group_history.specs.Map.{Bytes}
 use Rattle.giqaymu_c.specs.contracts.spots.Spot as Spot
-use Rattle.giqaymu_c.specs.Jobs.{rules_meant}
-use Rattle.giqaymu_c.specs.Own.{Run, runs_mean}
+use Rattle.giqaymu_c.specs.Jobs.{meant_at}
+use Rattle.giqaymu_c.specs.Own.{Run}
 use Rattle.giqaymu_c.specs.Spots.{SpotState}
 use base.Fml.{Fml, ffalse, ftrue}
 use denote.Exit.{no}
@@ -27,15 +27,14 @@ held_owns R zero at (Some x) = ffalse
 held_owns R (suc k) at None = ffalse
 held_owns R (suc k) at (Some x) = box_owns (ghosts.dealloc_token heap) R at x
 
--- the marker that names rules, as a call passes it
+-- the marker that names mutators, as a call passes it
 abbrev pub marker : RattleType
 marker = arg (ty_struct [] tnil) no Brand.the_row
 
--- a spot of a group whose rules this text says, or whose host's own mutators have these runs
-abbrev pub spot_row : Bytes → List Run → RattleType
-spot_row text own =
-    Spot.the_row (param 0 marker) (record { rules = rules_meant text }) (record { meaning = runs_mean own })
+-- a spot of a group whose rules this text says, and whose host's own mutators have these runs
+abbrev pub spot_row : Bytes → Bool → List Run → RattleType
+spot_row text asks own = Spot.the_row (param 0 marker) (record { meant = meant_at text asks own })
 
 -- what a place has
-abbrev pub place_owns : Bytes → List Run → ℕ → Ptr → Option SpotState → Fml
-place_owns text own flag at spot = held_owns (spot_row text own) flag at spot
+abbrev pub place_owns : Bytes → Bool → List Run → ℕ → Ptr → Option SpotState → Fml
+place_owns text asks own flag at spot = held_owns (spot_row text asks own) flag at spot

@@ -1,12 +1,11 @@
 -- How a place of a host stands.
-use Rattle.std.specs.Prelude.{Bool, List, ◌∷◌, ◌++◌, [], map}
+use Rattle.std.specs.Prelude.{List, ◌∷◌, ◌++◌, [], map}
 use Rattle.host_places.specs.Places.{DeskState, PlaceState}
 
--- A desk, and those of its group that are not given out yet; and whether the group's mutators are the host's own.
+-- A desk, and those of its group that are not given out yet.
 pub record SpotState : Type 0 where
   pub desk : DeskState
   pub spare : List DeskState
-  pub own : Bool
 
 -- the places of all of them
 abbrev pub places_of : SpotState → List PlaceState

@@ -1,10 +1,9 @@
 //! What C calls.
 ghost use Rattle.std.specs.Prelude.{◌≡◌, ◌≢◌, ◌<◌, IfSome, None, length, pos, slice_get};
 ghost use Rattle.std.specs.List.{All};
-ghost use Rattle.giqaymu_c.specs.Jobs.{Acts, HasOpened, IsFit, IsToldByNumbers, meant_at};
+ghost use Rattle.giqaymu_c.specs.Jobs.{Acts, HasOpened, IsFit, IsToldByNumbers, asks_meant, meant_at};
 ghost use Rattle.giqaymu_c.specs.Exports.{AreOpenedFor, IsCalled, IsGivenOut, IsLike, IsOpened};
 ghost use Rattle.giqaymu_c.specs.Exports.{IsOpeningFault, IsRefusedFor, TellsFault};
-ghost use Rattle.giqaymu_c.specs.Own.{runs_mean};
 ghost use Rattle.giqaymu_c.specs.declared.jobs.Reply.{Reply as HostReply};
 
 use crate::handle::{Handle, act};
@@ -38,9 +37,10 @@ fn taken(place: &mut Handle) -> Handle
 
 // Does a job at a place, and answers the place that is given.
 fn act_at(alloc: Global, place: &mut Handle, job: Job<'_>) -> (Handle, Reply)
-    requires { IsFit job (meant_at place.old.text place.old.own) place.old.spot }
+    requires { IsFit job (meant_at place.old.text place.old.asks place.old.own) place.old.spot }
     ensures { IsLike place.old place.new × IsLike place.old result.0
-        × Acts job.entry (meant_at place.old.text place.old.own) place.old.spot result.1 place.new.spot result.0.spot }
+        × Acts job.entry (meant_at place.old.text place.old.asks place.old.own) place.old.spot result.1 place.new.spot
+        result.0.spot }
 {
     let handle = taken(place);
     let (handle, given, reply) = act(handle, alloc, job);
@@ -57,6 +57,7 @@ fn close(alloc: Global, handle: Handle) {
 
 /// Makes the call of these numbers and bytes at a place. A closed place is refused. The one premise is the host's to
 /// keep: where the call tells that a run of one of its own mutators has ended, the run ended as the place's runs mean.
+/// Where the host has none, there is none.
 #[unsafe(no_mangle)]
 pub extern "C" fn giq_call(
     alloc: Global,
@@ -68,10 +69,10 @@ pub extern "C" fn giq_call(
     b: &[u8],
     out: &mut Answer,
 ) -> i32
-    requires { IfSome place.old.spot (IsToldByNumbers (runs_mean place.old.own) what m n) }
+    requires { IfSome place.old.spot (IsToldByNumbers (meant_at place.old.text place.old.asks place.old.own) what m n) }
     ensures same { IsLike place.old place.new }
-    ensures called { IsCalled (meant_at place.old.text place.old.own) what m n a.now b.now place.old.spot result out.new
-        place.new.spot }
+    ensures called { IsCalled (meant_at place.old.text place.old.asks place.old.own) what m n a.now b.now place.old.spot
+        result out.new place.new.spot }
 {
     let call = Job::Call(Numbered { what, m, n, a, b });
     let (given, reply) = act_at(alloc, place, call);
@@ -97,7 +98,8 @@ pub extern "C" fn giq_close(alloc: Global, place: &mut Handle)
 
 // Opens a group: this place has all of its places then. The host's own mutators have the runs of the other place.
 fn open_first(alloc: Global, grounds: Grounds<'_>, like: &Handle) -> (Handle, i32)
-    ensures text { (result.0.text ≡ grounds.entry.rules.now) × (result.0.own ≡ like.now.own) }
+    ensures text { (result.0.text ≡ grounds.entry.rules.now) × (result.0.asks ≡ asks_meant grounds.entry.own)
+        × (result.0.own ≡ like.now.own) }
     ensures opened { (reply : HostReply) × (result.1 ≡ reply.number) × HasOpened grounds.entry reply result.0.spot }
 {
     let job = Job::Open(grounds);
@@ -160,9 +162,9 @@ fn open_all(alloc: Global, grounds: Grounds<'_>, places: &mut [Handle]) -> i32
 }
 
 /// Opens a group, and gives out its places: as many as there is room for, 1 to 256. Places that were open are closed
-/// first. Where it is refused, all of them are closed. `rules` is a JSON text of rules, or no bytes; where the mutators
-/// are the host's `own` (1, else 0) there are no rules. The runs of those are the ones that the first
-/// place has.
+/// first. Where it is refused, all of them are closed. `rules` is a JSON text of rules, or no bytes. With `own` 1 names
+/// without a rule are those of the host's own mutators, whose runs are the ones that the first place has; with 0 those
+/// of scripts.
 #[unsafe(no_mangle)]
 pub extern "C" fn giq_open(
     alloc: Global,

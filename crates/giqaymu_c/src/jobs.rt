@@ -9,7 +9,7 @@ use host_places::{Opening, Outcome};
 pub struct Grounds<'a> {
     pub with: Opening<'a>,
     pub rules: &'a [u8],
-    /// 1: its mutators are the host's own, and there are no rules; else 0.
+    /// 1: names without a rule are those of the host's own mutators; 0: those of scripts.
     pub own: u32,
 }
 

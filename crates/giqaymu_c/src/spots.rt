@@ -1,45 +1,25 @@
 //! What a place of a host has: a desk, and the desks of its group that are not given out yet.
-ghost use Rattle.std.specs.Prelude.{◌≡◌, ◌≢◌, ◌⊎◌, ◌++◌, ◌∷◌, ◌<◌, [], true, false, length, IfErr, IfNone};
-ghost use Rattle.std.specs.Prelude.{IfOk, IfSome, Ok};
+ghost use Rattle.std.specs.Prelude.{◌≡◌, ◌++◌, ◌∷◌, ◌<◌, [], length, IfErr, IfNone, IfOk, IfSome, Ok};
 ghost use Rattle.rule_mutators.specs.Views.{rules_of};
-ghost use Rattle.host_places.specs.declared.faults.Fault.TheVariants.{BadRules};
-ghost use Rattle.host_places.specs.declared.outcomes.Outcome.TheVariants.{Faulty};
-ghost use Rattle.host_places.specs.Asking.{ran_said};
-ghost use Rattle.host_places.specs.Runs.{IsRunTold};
 ghost use Rattle.giqaymu_c.specs.Inside.{IsBoxed};
-ghost use Rattle.giqaymu_c.specs.Jobs.{Acts, Calls, CallsAt, Gives, HasCalled, HasGiven, HasOpened, IsFit};
-ghost use Rattle.giqaymu_c.specs.Jobs.{IsOpeningRefusal, IsOpeningWant, IsRulesRefusal, IsToldAsMeant, Opens, OpensOwn};
-ghost use Rattle.giqaymu_c.specs.Jobs.{OpensRules, RepliesAt, meant_by, rules_given, rules_meant};
+ghost use Rattle.giqaymu_c.specs.Jobs.{Acts, Calls, Gives, HasCalled, HasGiven, HasOpened, IsFit, IsMeantBy};
+ghost use Rattle.giqaymu_c.specs.Jobs.{IsOpeningRefusal, IsRulesRefusal, IsToldAsMeant, Opens, RepliesAt, rules_given};
 
 use crate::held::Held;
 use crate::jobs::{Grounds, Job, Numbered, Reply};
-use group_history::{Means, Mutators, Refusal};
-use host_places::{
-    AtOnce, Changes, Desk, Fault, Outcome, OwnMutators, PickedMeaning, close_places, open_places,
-};
-use rule_mutators::{Picked, RuleFault, RuleMutators, Rules};
+use group_history::Refusal;
+use host_places::{Desk, Fault, HostMutators, Outcome, Picked, close_places, open_places};
+use rule_mutators::{RuleFault, Rules};
 use std::alloc::Global;
 use std::marker::Model;
 
-/// A desk, and the desks of its group that are not given out yet.
-pub(crate) struct Desks<M: Means + Changes> {
-    desk: Desk<M>,
-    spare: Vec<Desk<M>>,
+/// What a place of a host has: a desk, and the desks of its group that are not given out yet.
+pub(crate) struct Spot<B: Picked> {
+    desk: Desk<HostMutators<B>>,
+    spare: Vec<Desk<HostMutators<B>>>,
 }
 
-/// Those of a group of rules, or of one whose mutators are the host's own.
-pub(crate) enum Either<B: Picked + PickedMeaning + Drop> {
-    Rules(Desks<RuleMutators<B>>),
-    Own(Desks<OwnMutators<B>>),
-}
-
-/// What a place of a host has.
-pub(crate) struct Spot<B: Picked + PickedMeaning + Drop> {
-    desks: Either<B>,
-}
-
-impl<B: Picked + PickedMeaning + Drop> Model for Spot<B> {
-    ghost use Rattle.giqaymu_c.specs.Inside.{seen_as};
+impl<B: Picked> Model for Spot<B> {
     ghost use Rattle.giqaymu_c.specs.Codes.{state_coded};
     ghost use Rattle.giqaymu_c.specs.Spots.{SpotState};
 
@@ -47,17 +27,15 @@ impl<B: Picked + PickedMeaning + Drop> Model for Spot<B> {
 
     ghost coded = { state_coded };
 
-    ghost view = { λ s. seen_as s.desks };
+    ghost view = { λ s. record { desk = s.desk; spare = s.spare.items } };
 }
 
 // A box can be made a pointer only where its value may be dropped. A desk can't be: this closes each.
-impl<B: Picked + PickedMeaning + Drop> Drop for Spot<B> {
+impl<B: Picked> Drop for Spot<B> {
     fn drop(self) {
-        let Spot { desks } = self;
-        match desks {
-            Either::Rules(desks) => desks.close(),
-            Either::Own(desks) => desks.close(),
-        }
+        let Spot { desk, spare } = self;
+        drop(desk.close());
+        close_places(spare);
     }
 }
 
@@ -73,22 +51,15 @@ fn rules_of_text(alloc: Global, text: &[u8]) -> Result<Rules, Outcome>
     }
 }
 
-impl<M: Means + Changes> Desks<M> {
+impl<B: Picked> Spot<B> {
     // The desks of a group that was opened.
-    fn of(desks: Vec<Desk<M>>) -> Desks<M>
+    fn of(desks: Vec<Desk<HostMutators<B>>>) -> Spot<B>
         requires { 0 < length desks.items }
-        ensures { desks.items ≡ result.spare.items ++ result.desk ∷ [] }
+        ensures { desks.items ≡ result.spare ++ result.desk ∷ [] }
     {
         let mut spare = desks;
         let desk = spare.pop().unwrap();
-        Desks { desk, spare }
-    }
-
-    // Closes them.
-    fn close(self) {
-        let Desks { desk, spare } = self;
-        drop(desk.close());
-        close_places(spare);
+        Spot { desk, spare }
     }
 
     // What a call came to, and where the bytes lie that it told.
@@ -104,111 +75,19 @@ impl<M: Means + Changes> Desks<M> {
         }
     }
 
-    // The next desk that isn't given out yet, alone.
-    fn give(&mut self, alloc: Global) -> Option<Desks<M>>
+    // A spot of the next desk that isn't given out yet.
+    fn next(&mut self, alloc: Global) -> Option<Spot<B>>
         ensures desk { self.new.desk ≡ self.old.desk }
-        ensures some { IfSome result (λ d. (self.old.spare.items ≡ self.new.spare.items ++ d.desk ∷ [])
-            × (d.spare.items ≡ [])) }
-        ensures none { IfNone result ((self.old.spare.items ≡ []) × (self.new.spare.items ≡ [])) }
+        ensures some { IfSome result (λ spot. (self.old.spare ≡ self.new.spare ++ spot.desk ∷ [])
+            × (spot.spare ≡ [])) }
+        ensures none { IfNone result ((self.old.spare ≡ []) × (self.new.spare ≡ [])) }
     {
         match self.spare.pop() {
-            Some(desk) => Some(Desks {
+            Some(desk) => Some(Spot {
                 desk,
                 spare: Vec::new(alloc),
             }),
             None => None,
-        }
-    }
-}
-
-impl<M: Mutators + AtOnce> Desks<M> {
-    fn call(&mut self, call: Numbered<'_>) -> Reply
-        ensures spare { self.new.spare ≡ self.old.spare }
-        ensures called { CallsAt false M.means call.entry self.old.desk.place result self.new.desk }
-    {
-        let outcome = self
-            .desk
-            .call_numbered(call.what, call.m, call.n, call.a, call.b);
-        self.reply(outcome)
-    }
-}
-
-impl<B: PickedMeaning + Sync + Drop> Desks<OwnMutators<B>> {
-    fn call_own(&mut self, call: Numbered<'_>) -> Reply
-        requires { call.what ≡ 23 → IsRunTold B.meaning self.old.desk.place.asking (ran_said call.m call.n) }
-        ensures spare { self.new.spare ≡ self.old.spare }
-        ensures called { CallsAt true B.meaning call.entry self.old.desk.place result self.new.desk }
-    {
-        let outcome = self
-            .desk
-            .call_own_numbered(call.what, call.m, call.n, call.a, call.b);
-        self.reply(outcome)
-    }
-}
-
-impl<B: Picked + PickedMeaning + Sync + Drop> Spot<B> {
-    fn open_rules(alloc: Global, grounds: Grounds<'_>) -> Result<Spot<B>, Outcome>
-        requires { B.rules ≡ rules_meant grounds.rules.now }
-        ensures opened { IfOk result (λ spot. OpensRules grounds.entry spot) }
-        ensures err { IfErr result (λ e. IsOpeningWant grounds.entry e ⊎ IsRulesRefusal grounds.entry.rules.now e) }
-    {
-        let rules = rules_of_text(alloc, grounds.rules)?;
-        let desks = open_places(alloc, grounds.with, RuleMutators::<B>::new(rules))?;
-        let desks = Either::Rules(Desks::of(desks));
-        Ok(Spot { desks })
-    }
-
-    // Mutators of the host's own; then there are no rules.
-    fn open_own(alloc: Global, grounds: Grounds<'_>) -> Result<Spot<B>, Outcome>
-        ensures opened { IfOk result (λ spot. OpensOwn grounds.entry spot) }
-        ensures err { IfErr result (λ e. IsOpeningWant grounds.entry e
-            ⊎ ((e ≡ Faulty BadRules) × (grounds.entry.rules.now ≢ []))) }
-    {
-        if !grounds.rules.is_empty() {
-            return Err(Outcome::Faulty(Fault::BadRules));
-        }
-        let desks = open_places(alloc, grounds.with, OwnMutators::<B>::new())?;
-        let desks = Either::Own(Desks::of(desks));
-        Ok(Spot { desks })
-    }
-
-    fn open(alloc: Global, grounds: Grounds<'_>) -> Result<Spot<B>, Outcome>
-        requires { B.rules ≡ rules_meant grounds.rules.now }
-        ensures opened { IfOk result (λ spot. Opens grounds.entry spot) }
-        ensures err { IfErr result (IsOpeningRefusal grounds.entry) }
-    {
-        match grounds.own {
-            0 => Spot::<B>::open_rules(alloc, grounds),
-            1 => Spot::<B>::open_own(alloc, grounds),
-            _ => Err(Outcome::Faulty(Fault::OutOfRange)),
-        }
-    }
-
-    fn call(&mut self, call: Numbered<'_>) -> Reply
-        requires { IsToldAsMeant B.meaning call self.old }
-        ensures { Calls (meant_by B.rules B.meaning) call.entry self.old result self.new }
-    {
-        match &mut self.desks {
-            Either::Rules(desks) => desks.call(call),
-            Either::Own(desks) => desks.call_own(call),
-        }
-    }
-
-    // A spot of the next desk that isn't given out yet.
-    fn next(&mut self, alloc: Global) -> Option<Spot<B>>
-        ensures desk { self.new.desk ≡ self.old.desk }
-        ensures own { self.new.own ≡ self.old.own }
-        ensures some { IfSome result (λ spot. (self.old.spare ≡ self.new.spare ++ spot.desk ∷ [])
-            × (spot.spare ≡ []) × (spot.own ≡ self.old.own)) }
-        ensures none { IfNone result ((self.old.spare ≡ []) × (self.new.spare ≡ [])) }
-    {
-        match &mut self.desks {
-            Either::Rules(desks) => desks.give(alloc).map(|d| Spot {
-                desks: Either::Rules(d),
-            }),
-            Either::Own(desks) => desks.give(alloc).map(|d| Spot {
-                desks: Either::Own(d),
-            }),
         }
     }
 
@@ -235,11 +114,34 @@ impl<B: Picked + PickedMeaning + Sync + Drop> Spot<B> {
     }
 }
 
-fn open_held<B: Picked + PickedMeaning + Sync + Drop>(
-    alloc: Global,
-    grounds: Grounds<'_>,
-) -> (Held<Spot<B>>, Reply)
-    requires { B.rules ≡ rules_meant grounds.rules.now }
+impl<B: Picked + Sync> Spot<B> {
+    fn open(alloc: Global, grounds: Grounds<'_>) -> Result<Spot<B>, Outcome>
+        requires { IsMeantBy grounds B.meant }
+        ensures opened { IfOk result (λ spot. Opens grounds.entry spot) }
+        ensures err { IfErr result (IsOpeningRefusal grounds.entry) }
+    {
+        if grounds.own > 1 {
+            return Err(Outcome::Faulty(Fault::OutOfRange));
+        }
+        let rules = rules_of_text(alloc, grounds.rules)?;
+        let mutators = HostMutators::<B>::new(rules, grounds.own == 1);
+        let desks = open_places(alloc, grounds.with, mutators)?;
+        Ok(Spot::of(desks))
+    }
+
+    fn call(&mut self, call: Numbered<'_>) -> Reply
+        requires { IsToldAsMeant B.meant call self.old }
+        ensures { Calls B.meant call.entry self.old result self.new }
+    {
+        let outcome = self
+            .desk
+            .call_numbered(call.what, call.m, call.n, call.a, call.b);
+        self.reply(outcome)
+    }
+}
+
+fn open_held<B: Picked + Sync>(alloc: Global, grounds: Grounds<'_>) -> (Held<Spot<B>>, Reply)
+    requires { IsMeantBy grounds B.meant }
     ensures { HasOpened grounds.entry result.1 result.0.value }
 {
     match Spot::<B>::open(alloc, grounds) {
@@ -248,13 +150,13 @@ fn open_held<B: Picked + PickedMeaning + Sync + Drop>(
     }
 }
 
-fn call_held<B: Picked + PickedMeaning + Sync + Drop>(
+fn call_held<B: Picked + Sync>(
     held: Held<Spot<B>>,
     alloc: Global,
     call: Numbered<'_>,
 ) -> (Held<Spot<B>>, Reply)
-    requires { IfSome held.value (IsToldAsMeant B.meaning call) }
-    ensures { HasCalled (meant_by B.rules B.meaning) call.entry held.value result.1 result.0.value }
+    requires { IfSome held.value (IsToldAsMeant B.meant call) }
+    ensures { HasCalled B.meant call.entry held.value result.1 result.0.value }
 {
     let Some(mut spot) = held.into_box(alloc) else {
         return (Held::none(), Reply::bare(Outcome::Faulty(Fault::NoPlace)));
@@ -263,7 +165,7 @@ fn call_held<B: Picked + PickedMeaning + Sync + Drop>(
     (Held::of(spot), reply)
 }
 
-fn give_held<B: Picked + PickedMeaning + Sync + Drop>(
+fn give_held<B: Picked + Sync>(
     held: Held<Spot<B>>,
     alloc: Global,
 ) -> (Held<Spot<B>>, Held<Spot<B>>, Reply)
@@ -279,13 +181,13 @@ fn give_held<B: Picked + PickedMeaning + Sync + Drop>(
 
 /// Does a job at a place. What comes second is the place that is given.
 #[inline(always)]
-pub(crate) fn act_held<B: Picked + PickedMeaning + Sync + Drop>(
+pub(crate) fn act_held<B: Picked + Sync>(
     held: Held<Spot<B>>,
     alloc: Global,
     job: Job<'_>,
 ) -> (Held<Spot<B>>, Held<Spot<B>>, Reply)
-    requires { IsFit job (meant_by B.rules B.meaning) held.value }
-    ensures { Acts job.entry (meant_by B.rules B.meaning) held.value result.2 result.0.value result.1.value }
+    requires { IsFit job B.meant held.value }
+    ensures { Acts job.entry B.meant held.value result.2 result.0.value result.1.value }
 {
     match job {
         Job::Open(grounds) => {

@@ -22,7 +22,7 @@ use Rattle.head_word.specs.declared.entry.Entry.{Entry}
 use Rattle.head_word.specs.Books.{drawn, record_of}
 use Rattle.head_word.specs.Marks.{Known, others}
 use Rattle.commit_graph.specs.declared.states.LastId.{LastId}
-use Rattle.answered.specs.Answered.{IsLinearized, IsPoint, IsRefused, is_mute, own_moves}
+use Rattle.answered.specs.Answered.{IsPoint, IsRefused, own_moves}
 use Rattle.answered.proofs.Losing.{lost_to_others, point_since}
 use Rattle.group_steps.specs.Missing.{IsStop, map_ok}
 use Rattle.group_steps.specs.Arriving.{IsArrived}
@@ -49,11 +49,6 @@ pub found_self : (cs : Contents) (found : LastId) (c : Change) → MayAsk cs fou
 found_self cs found (Mutated x) asks = (asks.0, refl)
 found_self cs found (Pulled t r) asks = refl
 found_self cs found Closed asks = refl
-
-pub found_id : (cs : Contents) (old new : LastId) (c : Change) → StaysFound cs old new c → new.id ≡ old.id
-found_id cs old new (Mutated x) is = is.1
-found_id cs old new (Pulled t r) is = ap (λ (l : LastId). l.id) is
-found_id cs old new Closed is = ap (λ (l : LastId). l.id) is
 
 pub found_grown : (old new : List Entry) (one two : LastId) (c : Change) → IsPrefix old new
     → StaysFound (drawn old) one two c → StaysFound (drawn new) one two c
@@ -114,12 +109,14 @@ has_last means cs new at s before Closed bits ids asks is spells = tt
 -- WHAT IS ANSWERED
 
 -- a try that looked where the head is, and what it found there
-pub try_answered : (reused : Type 0) (means : Meanings) (tries : ℕ) (old seen mid new : Known) (base : Ref) (first last : ℕ) (c : Change)
+pub try_answered : (reused : Type 0) (means : Meanings) (tries : ℕ) (old seen mid new : Known) (base : Ref)
+    (first last : ℕ) (c : Change)
     (r : Result Tried Refusal)
     → IsArrived means old seen mid base first → IsPrefix old.log mid.log → mid.seat ≡ old.seat
     → IsPrefix mid.log new.log → new.seat ≡ mid.seat
     → IfOk r (EndsTry means mid new base (after (record_of seen.log)) last c)
-    → IfErr r (IsUnmade (IsStop reused) (change_asked c) (asked_reply means (after (record_of seen.log)) last c) tries mid new)
+    → IfErr r (IsUnmade (IsStop reused) (change_asked c) (asked_reply means (after (record_of seen.log)) last c) tries
+    mid new)
     → AnswersTry means tries old new last c r
 try_answered reused means tries old seen mid new base first last c (Ok (tried.Made at)) a pre seat more number is err =
     let won = is.1 in (
@@ -151,13 +148,3 @@ refused_since means tries old mid new true e change right pre seat same more is 
     (is.0 ∙ same, λ moved. omega (arith, is.1 moved, more))
 refused_since means tries old mid new false e change right pre seat same more is =
     (is.0, point_since means old mid new change is.0 pre seat same is.1, is.2)
-
--- a call that is answered in its later part is answered, where the seat did not move the head in the earlier part
-pub answers_since : {X : Type 0} (means : Meanings) (tries : ℕ) (old mid new : Known) (reply : Result X Refusal)
-    (change : Result X Refusal → Option Change) (right : State → Result X Refusal)
-    → IsPrefix old.log mid.log → mid.seat ≡ old.seat → own_moves mid ≡ own_moves old → others old ≤ others mid
-    → IsLinearized means tries mid new reply change right → IsLinearized means tries old new reply change right
-answers_since means tries old mid new (Ok x) change right pre seat same more is =
-    (is.0, point_since means old mid new (change (Ok x)) is.0 pre seat same is.1, is.2)
-answers_since means tries old mid new (Err e) change right pre seat same more is = refused_since means tries old mid new
-    (is_mute e (change (Err e))) e (change (Err e)) (λ s. right s ≡ Err e) pre seat same more is

@@ -1,7 +1,7 @@
 -- What a seat gives back, try after try, and why a change is refused in a later part of a call.
 use Rattle.std.proofs.Common.{◌≡◌, ◌≢◌, ◌≤◌, inl, inr, ℕ, true, Err, Some, None, Option, List, [], ◌∷◌, ◌++◌, refl, sym}
 use Rattle.std.proofs.Common.{ap, length, map, subst, ◌∙◌, arith}
-use Rattle.std.proofs.Common.{append-nil, append_assoc, length-append, ◌<◌, ◌+◌, Ok, Result}
+use Rattle.std.proofs.Common.{append-nil, append_assoc, length-append, ◌<◌, ◌+◌}
 use Rattle.std.proofs.lemmas.Grind.{flat_map-append}
 use Rattle.std.proofs.lemmas.List.{length-map}
 use Rattle.std.proofs.lemmas.List.Elements.{All-append, All-cons, All-map, All-nil}
@@ -42,7 +42,7 @@ use Rattle.publishing.specs.Retiring.{AreFreed, GivenUp, GivesOneUp, GivesUp, dr
 use Rattle.publishing.proofs.Leaving.{freed_known, gives_up_known, gives_up_more}
 use Rattle.publishing.proofs.Passing.{KnowsAs, all_shut_as, pins_as}
 use Rattle.group_steps.specs.Causes.{HasCause, HasCauseAt, LacksRoom}
-use Rattle.group_steps.specs.Changing.{EndsAt, FreesTry}
+use Rattle.group_steps.specs.Changing.{EndsAt}
 use Rattle.group_steps.specs.Leaving.{AreLeft, FreesIn, FreesNone, GivesBack, MayTake}
 use Rattle.group_steps.specs.Missing.{IsStop}
 use Rattle.group_steps.specs.Proposing.{IsProposalFor, asked_reply, change_asked, kind_for}
@@ -59,7 +59,12 @@ pub gives_calm : (may : ℕ → Type 0) (old new : Seated) → own new.mark ≡ 
 gives_calm may old new same calm = record {
   given = [];
   few = omega arith;
-  back = record { ends = All-nil (λ (g : GivenUp). may g.end); gave = calm.deeds; loads = calm.loads; reached = calm.reached };
+  back = record {
+    ends = All-nil (λ (g : GivenUp). may g.end);
+    gave = calm.deeds;
+    loads = calm.loads;
+    reached = calm.reached;
+  };
   own = same ∙ sym (append-nil (own old.mark));
 }
 
@@ -328,24 +333,6 @@ frees_as may all n m old new (Some c) low h f = record {
   freed = f.freed;
 }
 
--- a part of a try: before it the seat looked, and behind it too, where it saw nothing more of the book
-pub try_within : (may all : ℕ → Type 0) (c : Change) (old mid done new : Seated) (r : Result Tried Refusal)
-    → IsSameSeat old mid → own mid.mark ≡ own old.mark → IsCalm old.view mid.view → new.mark ≡ done.mark
-    → IsCalm done.view new.view → ((end : ℕ) → may end → all end) → FreesTry may c mid done r → FreesTry all c old new r
-try_within may all c old mid done new (Ok (tried.Made at)) same none calm kept last h f =
-    frees_then may all 0 old done new (Some c) h kept last
-    (frees_since may may may 0 0 old mid done (Some c) same (λ end is. is) (λ end is. is)
-    (gives_calm may old mid none calm) f)
-try_within may all c old mid done new (Ok tried.Same) same none calm kept last h f =
-    frees_then may all 0 old done new None h kept last
-    (frees_since may may may 0 0 old mid done None same (λ end is. is) (λ end is. is) (gives_calm may old mid none calm) f)
-try_within may all c old mid done new (Ok tried.Lost) same none calm kept last h f =
-    frees_then may all 1 old done new None h kept last
-    (frees_since may may may 0 1 old mid done None same (λ end is. is) (λ end is. is) (gives_calm may old mid none calm) f)
-try_within may all c old mid done new (Err e) same none calm kept last h f =
-    frees_then may all 1 old done new None h kept last
-    (frees_since may may may 0 1 old mid done None same (λ end is. is) (λ end is. is) (gives_calm may old mid none calm) f)
-
 -- what may be taken in a part of a call may be taken in the call
 pub may_behind : (sizes : Sizes) (asked : Option Change) (old mid new : Known) (end : ℕ) → IsPrefix old.log mid.log
     → MayTake sizes asked mid new end → MayTake sizes asked old new end
@@ -540,7 +527,8 @@ cause_since means reused last c old mid new e pre table before h = record {
 
 -- a refusal that is no Full, no Stamps and no Busy needs none
 pub cause_other : (means : Meanings) (reused : Type 0) (last : ℕ) (c : Change) (old new : Seated) (e : Refusal)
-    → e ≢ refusal.Full → e ≢ refusal.Stamps → (e ≡ refusal.Busy → reused) → HasCause means reused last (Some c) old new e
+    → e ≢ refusal.Full → e ≢ refusal.Stamps → (e ≡ refusal.Busy → reused) → HasCause means reused last
+    (Some c) old new e
 cause_other means reused last c old new e other some busy = record {
   full = λ r is. absurd (other is);
   past = λ r is. absurd (other is);

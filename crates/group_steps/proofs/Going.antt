@@ -24,7 +24,8 @@ use Rattle.group_steps.specs.declared.runs.Replaying.{Replaying}
 use Rattle.group_steps.proofs.Running.{begun, leads_on}
 
 -- it leads to the same state
-pub leads_gone : (has : Bytes → Bool) (means : Meanings) (cs : Contents) (after : State) (was now : Replaying) (map : Entries)
+pub leads_gone : (has : Bytes → Bool) (means : Meanings) (cs : Contents) (after : State) (was now : Replaying)
+    (map : Entries)
     → (g : GoesOn has means cs was now)
     → Leads means cs after was.chain was.ran.items (reverse was.behind.items) map
     → Leads means cs after now.chain now.ran.items (reverse now.behind.items) (replayed means map g.own)
@@ -72,7 +73,8 @@ gone_more has means cs was now popped next x map start g chain ran last went =
     }
 
 -- the run that is asked for
-pub asked_gone : (has : Bytes → Bool) (means : Meanings) (cs : Contents) (s : State) (last : ℕ) (ticket : Cookie) (r : Pull)
+pub asked_gone : (has : Bytes → Bool) (means : Meanings) (cs : Contents) (s : State) (last : ℕ) (ticket : Cookie)
+    (r : Pull)
     (now popped : Replaying) (x : Mutation) (run : AskedRun) (m : Entries)
     → Leads means cs (after_pull s r) now.chain now.ran.items (reverse now.behind.items) m → HasNew now.chain
     → IsAccepted means s (Pulled ticket r) → popped.chain ≡ now.chain → popped.ran ≡ now.ran

@@ -81,7 +81,8 @@ never_asked means s last (Pulled ticket r) = never_told is_applied (end_reply s 
 never_asked means s last Closed = never_closing s.closed
 
 -- a right refusal is not that of a lost exchange
-pub judged_so : (reused : Type 0) (means : Meanings) (s : State) (last : ℕ) (ticket : Bytes) (change : Change) (r : Pull) (e : Refusal)
+pub judged_so : (reused : Type 0) (means : Meanings) (s : State) (last : ℕ) (ticket : Bytes) (change : Change)
+    (r : Pull) (e : Refusal)
     → s.closed ≡ false → Err e ≡ end_at s ticket r
     → asked_reply means s last change ≡ map_ok is_applied (end_reply s ticket (response.Ok r))
     → IsUnproposed (IsStop reused) (change_asked change) (asked_reply means s last change) e

@@ -56,7 +56,8 @@ arrived means old mid new log base first is number at last spelled drawn more ow
     subst (λ (l : List Entry). IsArrived means old (when_seen old l) new base first) (sym is) (record {
       point = point_later means old mid new mid.log at more same;
       last = last;
-      spelled = spelled-stays mid.log new.log more (stamp_of base) (version_of means (after (record_of mid.log))) spelled;
+      spelled = spelled-stays mid.log new.log more (stamp_of base) (version_of means (after (record_of mid.log)))
+          spelled;
       drawn = drawn;
       seat = refl;
       since = more;
@@ -107,7 +108,8 @@ wanting means tries old new e change right none want left =
     mute (Some c) = false
 
 -- a call that arrived, and made nothing
-pub unmade : {X : Type 0} (reused : Type 0) (means : Meanings) (tries : ℕ) (old seen mid new : Known) (base : Ref) (first : ℕ)
+pub unmade : {X : Type 0} (reused : Type 0) (means : Meanings) (tries : ℕ) (old seen mid new : Known) (base : Ref)
+    (first : ℕ)
     (e : Refusal) (change : Result X Refusal → Option Change) (right : State → Result X Refusal)
     → IsArrived means old seen mid base first → change (Err e) ≡ None
     → IsUnmade (IsStop reused) change (right (after (record_of seen.log))) tries mid new e

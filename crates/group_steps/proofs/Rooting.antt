@@ -18,12 +18,14 @@ read_from (Some v) m h = (v, refl, cc h)
 read_from None m h = absurd (cc h)
 
 pub roots_stay : (old new : List Entry) (latest : Option Rooted) → IsPrefix old new
-    → ((r : Rooted) → latest ≡ Some r → IsRooted (drawn old) r) → (r : Rooted) → latest ≡ Some r → IsRooted (drawn new) r
+    → ((r : Rooted) → latest ≡ Some r → IsRooted (drawn old) r) → (r : Rooted) → latest ≡ Some r → IsRooted
+    (drawn new) r
 roots_stay old new latest more was r is =
     let w = was r is in
     let m = some_of (map_at (drawn old) (stamp_of r.root)) w.0 in
     let v = read_from (version_at (drawn old) (stamp_of r.commit)) m.0 (w.1 ∙ m.1) in
     let there = map-grown (drawn old) (drawn new) (stamp_of r.root) m.0 (drawn_begins old new more) m.1 in (
       subst (λ (o : Option Entries). IsSome o) (sym there) refl,
-      ap read_in (spelled-stays old new more (stamp_of r.commit) v.0 v.1) ∙ ap (λ (x : Entries). Some x) v.2 ∙ sym there,
+      ap read_in (spelled-stays old new more (stamp_of r.commit) v.0 v.1) ∙ ap (λ (x : Entries). Some x) v.2
+          ∙ sym there,
     )

@@ -44,13 +44,6 @@ use Rattle.group_steps.specs.declared.runs.Step.{Step}
 use Rattle.group_steps.specs.declared.runs.Step.TheVariants as step
 use Rattle.group_steps.specs.declared.runs.AskedRun.{AskedRun}
 
--- what the mutation means where its run begins, by the state there
-pub run_meaning : (means : Meanings) (cs : Contents) (s : State) (run : AskedRun) (x : Mutation) → run.mutation ≡ x
-    → run_start cs run ≡ view_of means s
-    → meaning_of means run.mutation (run_start cs run) ≡ meaning_of means x (view_of means s)
-run_meaning means cs s run x is start = ap (λ (y : Mutation). meaning_of means y (run_start cs run)) is
-    ∙ ap (meaning_of means x) start
-
 -- it ran as the caller says
 pub has_run : (means : Meanings) (cs : Contents) (run : AskedRun) (ran : Ran) → HasMap cs run → IsRunOf means cs run ran
     → HasRun (drafted cs run.chain) (meaning_of means run.mutation (run_start cs run))
@@ -75,7 +68,8 @@ leads_on means cs after chain ran own behind rest map order l = record {
 }
 
 -- none was run, and these are left
-pub leads_begun : (means : Meanings) (cs : Contents) (after : State) (chain : Chain) (s : State) (ran behind : List Mutation)
+pub leads_begun : (means : Meanings) (cs : Contents) (after : State) (chain : Chain) (s : State)
+    (ran behind : List Mutation)
     → length cs ≡ chain.draft.first → AreNeeded chain.draft.first chain.draft.nodes (chain.tip.commit ∷ [])
     → IsTip means (drafted cs chain) chain.tip s → s.closed ≡ false → s.pending ≡ [] → ran ≡ []
     → with_more s behind ≡ after → Leads means cs after chain ran behind (view_of means s)
@@ -123,13 +117,9 @@ begun contents map tree m same none is =
       ap (λ notes. undone notes (map_now contents map)) none ∙ ap map_or here,
     )
 
--- a draft stops for want of memory or of stamps
-pub want_stops : (reused : Type 0) (e : Refusal) → (e ≡ refusal.NoMemory) ⊎ (e ≡ refusal.Stamps) → IsStop reused e
-want_stops reused e (inl none) = inr (inl none)
-want_stops reused e (inr none) = inl none
-
 -- and then nothing is proposed
-pub want_unproposed : {X : Type 0} (reused : Type 0) (change : Result X Refusal → Option Change) (right : Result X Refusal)
+pub want_unproposed : {X : Type 0} (reused : Type 0) (change : Result X Refusal → Option Change)
+    (right : Result X Refusal)
     (e : Refusal) → (e ≡ refusal.NoMemory) ⊎ (e ≡ refusal.Stamps) → IsUnproposed (IsStop reused) change right e
 want_unproposed reused change right e (inl none) = (inl (inr (inl none)), λ moved. cc (sym none ∙ moved))
 want_unproposed reused change right e (inr none) = (inl (inl none), λ moved. cc (sym none ∙ moved))
@@ -140,13 +130,15 @@ pub ended_open : (s : State) (ticket : Bytes) (r : Pull) → s.closed ≡ false
 ended_open s ticket r is = ap (λ (b : Bool). if b then Err refusal.Closed else end_at s ticket r) is
 
 -- a new mutation whose mutator isn't done is refused
-pub refused_next : (reused : Type 0) (means : Meanings) (s : State) (last : ℕ) (x : Mutation) (meaning : Meaning) (e : Refusal)
+pub refused_next : (reused : Type 0) (means : Meanings) (s : State) (last : ℕ) (x : Mutation) (meaning : Meaning)
+    (e : Refusal)
     → IsNext s last x → meaning ≡ meaning_of means x (view_of means s) → map_if_done meaning ≡ Err e
     → IsUnproposed (IsStop reused) (change_asked (Mutated x)) (asked_reply means s last (Mutated x)) e
 refused_next reused means s last x meaning e j same refused =
     let right = meaning_of means x (view_of means s) in
     let is = reply-refused right e x.id (subst (λ (w : Meaning). map_if_done w ≡ Err e) same refused) in
-    told_unproposed (IsStop reused) (λ (id : ℕ). true) (change_made x) (change_asked (Mutated x)) (mutate_reply means s last x) e
+    told_unproposed (IsStop reused) (λ (id : ℕ). true) (change_made x) (change_asked (Mutated x))
+    (mutate_reply means s last x) e
     refl (subst (λ (r : Result ℕ Refusal). IsUnproposed (IsStop reused) (change_made x) r e)
     (sym (reply_next means s x last j.opened j.own j.next))
     (refused_for reused right x.id x e (inr (inr (Refuses-is e (by_meaning right x.id) is)))))
@@ -175,14 +167,16 @@ behind_on has means cs run ran (step.Move p) on = tt
 behind_on has means cs run ran step.Same on = tt
 
 -- what asks for no run is behind any
-pub behind_none_asked : (has : Bytes → Bool) (means : Meanings) (cs : Contents) (run : AskedRun) (ran : Ran) (next : Step)
+pub behind_none_asked : (has : Bytes → Bool) (means : Meanings) (cs : Contents) (run : AskedRun) (ran : Ran)
+    (next : Step)
     → NeedsNoRun next → IsBehind has means cs run ran next
 behind_none_asked has means cs run ran (step.Run r) none = absurd none
 behind_none_asked has means cs run ran (step.Move p) none = tt
 behind_none_asked has means cs run ran step.Same none = tt
 
 -- what is next of mutations is one of these
-pub left_on : (has : Bytes → Bool) (means : Meanings) (cs : Contents) (left : List Mutation) (map : Entries) (next : Step)
+pub left_on : (has : Bytes → Bool) (means : Meanings) (cs : Contents) (left : List Mutation) (map : Entries)
+    (next : Step)
     → IsOn has means cs left map next → IsOnLeft has left next
 left_on has means cs left map (step.Run r) on = (on.own, on.had, on.order)
 left_on has means cs left map (step.Move p) on = tt
@@ -193,7 +187,8 @@ left_none has left (step.Run r) none = absurd none
 left_none has left (step.Move p) none = tt
 left_none has left step.Same none = tt
 
-pub on_none : (has : Bytes → Bool) (means : Meanings) (cs : Contents) (left : List Mutation) (map : Entries) (next : Step)
+pub on_none : (has : Bytes → Bool) (means : Meanings) (cs : Contents) (left : List Mutation) (map : Entries)
+    (next : Step)
     → NeedsNoRun next → IsOn has means cs left map next
 on_none has means cs left map (step.Run r) none = absurd none
 on_none has means cs left map (step.Move p) none = tt
@@ -232,7 +227,8 @@ pub first_of_left : {E : Type 0} (has : Bytes → Bool) (s : State) (ticket : Co
 first_of_left has s ticket r left (Ok next) on all = first_on has s ticket r left next on all
 first_of_left has s ticket r left (Err e) on all = tt
 
-pub on_ended : {E : Type 0} (has : Bytes → Bool) (means : Meanings) (cs : Contents) (left : List Mutation) (map : Entries)
+pub on_ended : {E : Type 0} (has : Bytes → Bool) (means : Meanings) (cs : Contents) (left : List Mutation)
+    (map : Entries)
     (r : Result Step E) → IfOk r NeedsNoRun → IfOk r (IsOn has means cs left map)
 on_ended has means cs left map (Ok next) none = on_none has means cs left map next none
 on_ended has means cs left map (Err e) none = tt
@@ -242,7 +238,8 @@ pub left_ended : {E : Type 0} (has : Bytes → Bool) (left : List Mutation) (r :
 left_ended has left (Ok next) none = left_none has left next none
 left_ended has left (Err e) none = tt
 
-pub left_of_on : {E : Type 0} (has : Bytes → Bool) (means : Meanings) (cs : Contents) (left : List Mutation) (map : Entries)
+pub left_of_on : {E : Type 0} (has : Bytes → Bool) (means : Meanings) (cs : Contents) (left : List Mutation)
+    (map : Entries)
     (r : Result Step E) → IfOk r (IsOn has means cs left map) → IfOk r (IsOnLeft has left)
 left_of_on has means cs left map (Ok next) on = left_on has means cs left map next on
 left_of_on has means cs left map (Err e) on = tt

@@ -99,7 +99,8 @@ arrived_since means reused before old new lost c seen base first i a looked = re
     number = ap (λ (s : Option ℕ). length seen - length (own_of s seen)) i.same.later.seat
 
 -- a call whose pin was lost to others ends
-pub refused_since : (means : Meanings) (reused : Type 0) (tries : ℕ) (before old new : Seated) (lost last : ℕ) (c : Change)
+pub refused_since : (means : Meanings) (reused : Type 0) (tries : ℕ) (before old new : Seated) (lost last : ℕ)
+    (c : Change)
     (e : Refusal) → IsSince reused before lost c old → HasLooked reused old new
     → (e ≡ refusal.Busy) × reused × (new.mark ≡ old.mark) → IsEnded means reused tries before new last c (Err e)
 refused_since means reused tries before old new lost last c e i looked busy = record {
@@ -117,7 +118,8 @@ refused_since means reused tries before old new lost last c e i looked busy = re
 -- THE END OF A TRY
 
 -- a try that arrived ended so, and then the pin was taken away
-pub tried_since : (means : Meanings) (reused : Type 0) (tries : ℕ) (before mid done new : Seated) (lost last : ℕ) (c : Change)
+pub tried_since : (means : Meanings) (reused : Type 0) (tries : ℕ) (before mid done new : Seated) (lost last : ℕ)
+    (c : Change)
     (seen : List Entry) (base : Ref) (r : Result Tried Refusal) → base ≡ last_move seen
     → IsArrivedSince means reused before lost c seen mid → IsSameSeat mid done → HasLooked reused done new
     → (reused → new.view ≡ with_pin done.view Absent) → new.mark ≡ done.mark
@@ -132,8 +134,10 @@ tried_since means reused tries before mid done new lost last c seen base r stood
   where
     answers : AnswersTry means tries before.mark done.mark last c r
     answers = try_answered reused means tries before.mark (when_seen before.mark seen) mid.mark done.mark
-        (last_move seen) (next_stamp mid.mark.log) last c r a.arrived a.same.later.seen a.same.later.seat more.later.seen
-        more.later.seat (subst (λ (b : Ref). IfOk r (EndsTry means mid.mark done.mark b (after (record_of seen)) last c))
+        (last_move seen) (next_stamp mid.mark.log) last c r a.arrived a.same.later.seen a.same.later.seat
+        more.later.seen
+        more.later.seat (subst (λ (b : Ref). IfOk r (EndsTry means mid.mark done.mark b
+        (after (record_of seen)) last c))
         stood ok) err
 
     until : IsPrefix seen done.mark.log
@@ -150,7 +154,8 @@ tried_since means reused tries before mid done new lost last c seen base r stood
         (λ end is. subst (λ (w : Known). MayTake before.table.sizes (Some c) before.mark w end) (sym mark) is) mark
         (looked.calm again)
         (frees_since (MayTake before.table.sizes (Some c) before.mark mid.mark)
-        (EndsAt before.table.sizes (after (record_of seen)) c) (MayTake before.table.sizes (Some c) before.mark done.mark)
+        (EndsAt before.table.sizes (after (record_of seen)) c) (MayTake before.table.sizes
+        (Some c) before.mark done.mark)
         lost m before mid done o a.same
         (λ end is. may_before before.table.sizes (Some c) before.mark mid.mark done.mark end more.later.seen is)
         (λ end is. may_here before.table before done c seen end refl a.arrived.point.since until is) (a.gave again) f)
@@ -164,7 +169,12 @@ tried_since means reused tries before mid done new lost last c seen base r stood
       answer = subst (λ (m : Known). IsLinearized means tries before.mark m (Ok true) (change_asked c)
           (λ s. asked_reply means s last c)) (sym mark) t.0;
       cause = tt;
-      frees = λ again. (lost + 0, omega (arith, a.others, after_seen, ap others mark), whole 0 (Some c) again (f again));
+      frees = λ again. (
+        lost + 0,
+        omega (arith, a.others, after_seen, ap others mark),
+        whole 0 (Some c) again
+            (f again),
+      );
     }
     ends (Ok tried.Same) t is h f = record {
       answer = subst (λ (m : Known). IsLinearized means tries before.mark m (map_ok is_made (Ok None)) (change_asked c)
@@ -202,14 +212,16 @@ never_kept : (b : Bool) → closing_reply b ≡ Ok false → ⊥
 never_kept true h = cc h
 never_kept false h = cc h
 
-same_found : (means : Meanings) (cs : Contents) (s : State) (last : ℕ) (c : Change) → asked_reply means s last c ≡ Ok false
+same_found : (means : Meanings) (cs : Contents) (s : State) (last : ℕ) (c : Change) → asked_reply means s last c
+    ≡ Ok false
     → IsFound cs c (Ok None)
 same_found means cs s last (Mutated x) h = no_false (mutate_reply means s last x) h
 same_found means cs s last (Pulled ticket r) h = tt
 same_found means cs s last Closed h = never_kept s.closed h
 
 -- how a try ended that needed no run more
-pub turn_ended : (has : Bytes → Bool) (means : Meanings) (reused : Type 0) (old done new : Seated) (base : Ref) (s : State) (last : ℕ) (c : Change)
+pub turn_ended : (has : Bytes → Bool) (means : Meanings) (reused : Type 0) (old done new : Seated) (base : Ref)
+    (s : State) (last : ℕ) (c : Change)
     (r : Result Tried Refusal) → new.mark ≡ done.mark → (reused → IsIdle new.view)
     → IfOk r (EndsTry means old.mark done.mark base s last c) → IsTurn has means reused old new s last c (turn_of r)
 turn_ended has means reused old done new base s last c (Ok (tried.Made at)) mark idle is =
@@ -243,7 +255,8 @@ begins_first has s c was (turn.Ended made) h first = tt
 begins_first has s c was turn.Lost h first = tt
 
 -- the next run is asked for
-pub goes_behind : (has : Bytes → Bool) (means : Meanings) (cs : Contents) (run : AskedRun) (ran : Ran) (was : Result Step Refusal) (t : Turn) → IsPassed was t
+pub goes_behind : (has : Bytes → Bool) (means : Meanings) (cs : Contents) (run : AskedRun) (ran : Ran)
+    (was : Result Step Refusal) (t : Turn) → IsPassed was t
     → IfOk was (IsBehind has means cs run ran) → GoesBehind has means cs run ran t
 goes_behind has means cs run ran was (turn.Run next) h behind =
     subst (λ (w : Result Step Refusal). IfOk w (IsBehind has means cs run ran)) h behind
@@ -251,11 +264,13 @@ goes_behind has means cs run ran was (turn.Ended made) h behind = tt
 goes_behind has means cs run ran was turn.Lost h behind = tt
 
 -- a later try is one that began after fewer were lost
-pub starts_earlier : (has : Bytes → Bool) (m n : ℕ) (c : Change) {M : Type 0} (p : Progress M) → m ≤ n → StartsAnew has n c p → StartsAnew has m c p
+pub starts_earlier : (has : Bytes → Bool) (m n : ℕ) (c : Change) {M : Type 0} (p : Progress M) → m ≤ n
+    → StartsAnew has n c p → StartsAnew has m c p
 starts_earlier has m n c (progress.Run a) low h = (omega (arith, low, h.0), h.1)
 starts_earlier has m n c (progress.Ended made) low h = tt
 
-pub follows_anew : (has : Bytes → Bool) (means : Meanings) (old new : Seated) {M : Type 0} (was : Attempt M) (ran : Ran) (c : Change) (p : Progress M)
+pub follows_anew : (has : Bytes → Bool) (means : Meanings) (old new : Seated) {M : Type 0} (was : Attempt M) (ran : Ran)
+    (c : Change) (p : Progress M)
     → StartsAnew has (was.lost + 1) c p → Follows has means old new was ran c p
 follows_anew has means old new was ran c (progress.Run a) h = inr h
 follows_anew has means old new was ran c (progress.Ended made) h = tt

@@ -103,7 +103,8 @@ Frees asked spare old new made = (count : ℕ) × (others old.mark + count ≤ o
 
 -- and of a call that begins anew where it was refused in passing: it is not counted how many drafts were given up
 abbrev pub FreesAnew : Option Change → Seated → Seated → Option Change → Type 0
-FreesAnew asked old new made = (count : ℕ) × FreesIn (MayTake old.table.sizes asked old.mark new.mark) count old new made
+FreesAnew asked old new made = (count : ℕ) × FreesIn (MayTake old.table.sizes asked old.mark new.mark) count old new
+    made
 
 -- What the change leaves behind was let go where the head was moved, and the draft itself where it was not.
 abbrev pub FreesWhatIsLeft : ℕ → Contents → Ref → Ref → Change → List Ref → View → View → Published → Type 0

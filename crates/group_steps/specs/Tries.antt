@@ -85,7 +85,8 @@ IsFound cs change (Err e) = Unit {0}
 
 -- A run is asked for at the state, and the seat is as it was; or the seat rests.
 abbrev pub IsTurn : (Bytes → Bool) → Meanings → Type 0 → Seated → Seated → State → ℕ → Change → Turn → Type 0
-IsTurn has means reused old new s last change (turn.Run run) = (new ≡ old) × IsAskedRun means (drawn old.mark.log) s last
+IsTurn has means reused old new s last change (turn.Run run) = (new ≡ old) × IsAskedRun means
+    (drawn old.mark.log) s last
     change run × IsFresh has (drawn old.mark.log) run
 IsTurn has means reused old new s last change (turn.Ended made) = (reused → IsIdle new.view)
     × IsFound (drawn new.mark.log) change made
@@ -108,8 +109,10 @@ pub record IsAttempt (means : Meanings) (reused : Type 0) (group : GroupId) (sea
   pub run : IsAskedRun means (drawn seat.mark.log) (after (record_of attempt.arrival.seen.log)) last change attempt.run
 
 -- A run is asked for in one of the tries that the call may make; or the call ended, and the seat rests.
-abbrev pub IsProgress : (Bytes → Bool) → Meanings → Type 0 → GroupId → Seated → ℕ → ℕ → Change → {M : Type 0} → Progress M → Type 0
-IsProgress has means reused group new tries last change (progress.Run a) = IsAttempt means reused group new last change a
+abbrev pub IsProgress : (Bytes → Bool) → Meanings → Type 0 → GroupId → Seated → ℕ → ℕ → Change → {M : Type 0}
+    → Progress M → Type 0
+IsProgress has means reused group new tries last change (progress.Run a) = IsAttempt means reused group new last change
+    a
     × (a.lost < max 1 tries) × IsFresh has (drawn new.mark.log) a.run
 IsProgress has means reused group new tries last change (progress.Ended made) = (reused → IsIdle new.view)
     × IsFound (drawn new.mark.log) change made
@@ -122,8 +125,10 @@ TellsProgress means reused tries before new last change (progress.Ended made) = 
     last change made
 
 -- A try after so many that were lost: it goes on so, or it is lost, and the seat rests.
-abbrev pub IsGoing : (Bytes → Bool) → Meanings → Type 0 → GroupId → Seated → ℕ → ℕ → Change → {M : Type 0} → Option (Progress M) → Type 0
-IsGoing has means reused group new lost last change (Some (progress.Run a)) = IsAttempt means reused group new last change a
+abbrev pub IsGoing : (Bytes → Bool) → Meanings → Type 0 → GroupId → Seated → ℕ → ℕ → Change → {M : Type 0} → Option
+    (Progress M) → Type 0
+IsGoing has means reused group new lost last change (Some (progress.Run a)) = IsAttempt means reused group new last
+    change a
     × (a.lost ≡ lost) × IsFresh has (drawn new.mark.log) a.run
 IsGoing has means reused group new lost last change (Some (progress.Ended made)) = (reused → IsIdle new.view)
     × IsFound (drawn new.mark.log) change made
@@ -171,7 +176,10 @@ StartsIfAny has lost change None = Unit {0}
 
 -- After a run that ended so: the next one of the same try is asked for, and nothing else was done; or the try was lost,
 -- and a later one asks for its first run.
-abbrev pub Follows : (Bytes → Bool) → Meanings → Seated → Seated → {M : Type 0} → Attempt M → Ran → Change → Progress M → Type 0
-Follows has means old new was ran change (progress.Run a) = ((new ≡ old) × (a.lost ≡ was.lost) × (a.arrival ≡ was.arrival)
-    × IsRunBehind has means (drawn old.mark.log) was.run ran a.run) ⊎ StartsAnew has (was.lost + 1) change (progress.Run a)
+abbrev pub Follows : (Bytes → Bool) → Meanings → Seated → Seated → {M : Type 0} → Attempt M → Ran → Change → Progress M
+    → Type 0
+Follows has means old new was ran change (progress.Run a) = ((new ≡ old) × (a.lost ≡ was.lost) ×
+    (a.arrival ≡ was.arrival)
+    × IsRunBehind has means (drawn old.mark.log) was.run ran a.run) ⊎ StartsAnew has (was.lost + 1) change
+    (progress.Run a)
 Follows has means old new was ran change (progress.Ended made) = Unit {0}

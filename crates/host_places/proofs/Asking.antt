@@ -1,7 +1,7 @@
 -- A change that asks for runs: what came of it is of its group, and is told.
 use Rattle.std.proofs.Common.{◌≡◌, ◌⊎◌, inl, inr, [], ◌++◌, None, Some, Result, Ok, Err, refl, sym, ap, ◌∙◌, subst}
-use Rattle.std.specs.Prelude.{⊤, if◌then◌else◌, is_ok, IfErr, IfOk, OnOk}
-use Rattle.std.proofs.Math.Logic.{∥∥₁_elim, ∥∥₁_map, ∥∥₁_prop}
+use Rattle.std.specs.Prelude.{⊤, Bool, if◌then◌else◌, is_ok, IfErr, IfOk, OnOk}
+use Rattle.std.proofs.Math.Logic.{∥∥₁_elim, ∥∥₁_map}
 use Rattle.group_history.specs.declared.mutators.Ran.{Ran}
 use Rattle.group_history.specs.declared.refusals.Refusal.{Refusal}
 use Rattle.group_history.specs.declared.refusals.Refusal.TheVariants.{NoMemory}
@@ -20,40 +20,36 @@ use Rattle.host_places.specs.declared.outcomes.Outcome.TheVariants.{Done}
 use Rattle.host_places.specs.Drafts.{AsksRun, ByRun, ReadsMap, Replies, WritesDraft, WritesMap}
 use Rattle.host_places.specs.Inside.Sitting.{IsAt, IsStepAt, Stands}
 use Rattle.host_places.specs.Places.{PlaceState, with_asking}
-use Rattle.host_places.specs.Runs.{AsksNext, EndsRuns, IsBegunAt, none_own}
+use Rattle.host_places.specs.Runs.{AsksNext, EndsRuns, IsAsking, IsBegunAt}
 use Rattle.host_places.specs.Told.{Told, dry, told}
 use Rattle.host_places.proofs.Moving.{at_later, at_prop}
 use Rattle.host_places.proofs.Telling.{at_some}
 
 -- What a change came to is of the group of the client with which its call began.
-pub step_at : (means : Meanings) (group : Grouped) (client : ClientState) {M S T : Type 0} (step : Asked M S T)
-    (P : UnderWay → Type 0) (E : ClientState → Result Reply Refusal → Type 0) → IsAt group client
+pub step_at : (has : Bytes → Bool) (means : Meanings) (group : Grouped) (client : ClientState) {M S T : Type 0}
+    (step : Asked M S T) (P : UnderWay → Type 0) (E : ClientState → Result Reply Refusal → Type 0) → IsAt group client
     → ((a : UnderWay) → P a → BeganAs means ⊤ client a)
     → ((c : ClientState) (r : Result Reply Refusal) → E c r → Acts ⊤ client c) → Tells step P E
-    → IsStepAt means group step
-step_at means group client (asked.Run a) P E at began acts is = ∣ (client, at.0, at.1, began a is) ∣₁
-step_at means group client (asked.Ended c r) P E at began acts is = at_later group client c at (acts c r is)
-
-step_prop : (means : Meanings) (group : Grouped) {M S T : Type 0} (step : Asked M S T)
-    → IsProp (IsStepAt means group step)
-step_prop means group (asked.Run a) = ∥∥₁_prop
-step_prop means group (asked.Ended c r) = at_prop group c
+    → Tells step (IsUnwritten has) (λ c r. Unit {0}) → IsStepAt has means group step
+step_at has means group client (asked.Run a) P E at began acts is fresh =
+    (fresh.1, ∣ (client, at.0, at.1, began a is) ∣₁)
+step_at has means group client (asked.Ended c r) P E at began acts is fresh = at_later group client c at (acts c r is)
 
 -- of one that is under way, whichever client its call began with
 abbrev pub RunTold : Meanings → {M S T : Type 0} → Asked M S T → UnderWay → Type 0
 RunTold means step was = (c : ClientState) → BeganAs means ⊤ c was → Tells step (IsAsked means ⊤ was.tries c was.change)
     (λ client reply. EndsCall means ⊤ was.tries c client was.change (map_ok reply_seen reply))
 
-pub step_behind : (means : Meanings) (group : Grouped) {M S T : Type 0} (step : Asked M S T) (was : UnderWay)
-    → IsBegunAt means group was → RunTold means step was → IsStepAt means group step
-step_behind means group step was begun told =
-    ∥∥₁_elim begun (step_prop means group step) (λ b. step_at means group b.0 step
-    (IsAsked means ⊤ was.tries b.0 was.change)
-    (λ client reply. EndsCall means ⊤ was.tries b.0 client was.change (map_ok reply_seen reply)) (b.1, b.2)
-    (λ a is. is.began) (λ client reply ends. ends.acts) (told b.0 b.3))
+pub step_behind : (has : Bytes → Bool) (means : Meanings) (group : Grouped) {M S T : Type 0} (step : Asked M S T)
+    (was : UnderWay) → IsBegunAt means group was → RunTold means step was
+    → Tells step (IsUnwritten has) (λ c r. Unit {0}) → IsStepAt has means group step
+step_behind has means group (asked.Run a) was begun told fresh =
+    (fresh.1, ∥∥₁_map begun (λ b. (b.0, b.1, b.2, (told b.0 b.3).began)))
+step_behind has means group (asked.Ended c r) was begun told fresh =
+    ∥∥₁_elim begun (at_prop group c) (λ b. at_later group b.0 c (b.1, b.2) (told b.0 b.3).acts)
 
 -- the call of a run whose map was written began as before
-pub begun_written : (means : Meanings) (group : Grouped) (change : Entries → Entries) (was now : UnderWay) (t : Told)
+begun_written : (means : Meanings) (group : Grouped) (change : Entries → Entries) (was now : UnderWay) (t : Told)
     → WritesMap change was t now → IsBegunAt means group was → IsBegunAt means group now
 begun_written means group change was now t (inl (told, is)) begun =
     ∥∥₁_map begun (λ b.
@@ -63,7 +59,23 @@ begun_written means group change was now t (inl (told, is)) begun =
 begun_written means group change was now t (inr (e, missed, told, same)) begun =
     subst (IsBegunAt means group) (sym same) begun
 
+-- and its mutation is the same
+pub asked_written : (has : Bytes → Bool) (means : Meanings) (group : Grouped) (change : Entries → Entries)
+    (was now : UnderWay) (t : Told) → WritesMap change was t now → IsAsking has means group was
+    → IsAsking has means group now
+asked_written has means group change was now t (inl (told, is)) asking = (
+  ap (λ (a : UnderWay). has a.mutation.name) is ∙ asking.0,
+  begun_written means group change was now t (inl (told, is)) asking.1,
+)
+asked_written has means group change was now t (inr (e, missed, told, same)) asking =
+    subst (IsAsking has means group) (sym same) asking
+
 -- ---- what is told of it
+
+-- it is of the names that the group has, by either word for them
+pub told_by : {M S T : Type 0} (step : Asked M S T) (P : (Bytes → Bool) → UnderWay → Type 0) (has had : Bytes → Bool)
+    → has ≡ had → Tells step (P has) (λ c r. Unit {0}) → Tells step (P had) (λ c r. Unit {0})
+told_by step P has had same is = subst (λ h. Tells step (P h) (λ c r. Unit {0})) same is
 
 -- three things are told of a run that is asked for
 pub tells_all : {M S T : Type 0} (step : Asked M S T) (P Q R : UnderWay → Type 0)
@@ -73,12 +85,12 @@ tells_all (asked.Run a) P Q R E p q r = (p, q, r)
 tells_all (asked.Ended c reply) P Q R E e q r = e
 
 -- the next run is asked for, or the change ended, whichever client its call began with
-pub tells_next : (means : Meanings) {M S T : Type 0} (step : Asked M S T) (was : UnderWay) (ran : Ran)
-    → RunTold means step was → Tells step (Follows none_own means was ran) (λ c r. Unit {0})
-    → Tells step (IsUnwritten none_own) (λ c r. Unit {0})
-    → Tells step (AsksNext means was ran) (λ client reply. EndsRuns means was client (map_ok reply_seen reply))
-tells_next means (asked.Run a) was ran told next fresh = record { follows = next; fresh = fresh; asked = told }
-tells_next means (asked.Ended c r) was ran told next fresh = told
+pub tells_next : (has : Bytes → Bool) (means : Meanings) {M S T : Type 0} (step : Asked M S T) (was : UnderWay)
+    (ran : Ran) → RunTold means step was → Tells step (Follows has means was ran) (λ c r. Unit {0})
+    → Tells step (IsUnwritten has) (λ c r. Unit {0})
+    → Tells step (AsksNext has means was ran) (λ client reply. EndsRuns means was client (map_ok reply_seen reply))
+tells_next has means (asked.Run a) was ran told next fresh = record { follows = next; fresh = fresh; asked = told }
+tells_next has means (asked.Ended c r) was ran told next fresh = told
 
 -- Who sat there was taken, and the place has what the change came to.
 pub stood : {M S T : Type 0} (step : Asked M S T) (P : UnderWay → Type 0)

@@ -1,6 +1,7 @@
 -- A call where no run is asked for, that is no change.
 use Rattle.std.proofs.Common.{◌≡◌, ◌⊎◌, inl, inr, Option, Some, None, refl, sym, subst}
 use Rattle.std.specs.Prelude.{Bool, false, is_some}
+use Rattle.group_history.specs.Map.{Bytes}
 use Rattle.group_history.specs.Meaning.{Meanings}
 use Rattle.rebase.specs.Running.{UnderWay}
 use Rattle.host_places.specs.declared.asked.Asked.{Asked}
@@ -14,16 +15,18 @@ pub none_asked : (o : Option UnderWay) (is : Bool) → is ≡ is_some o → is �
 none_asked None is same off = refl
 none_asked (Some a) is same off = cc
 
-left_to_looking : (asks : Bool) (means : Meanings) (what : Asked) (b : PlaceState) (t : Told) (a : PlaceState) → ((x : _) → what ≡ asked.Mutate x → ⊥) → ((x : _) (y : _) → what ≡ asked.End x y → ⊥) → AnswersLooking means what b t a → AnswersCalm asks means what b t a
-left_to_looking asks means (asked.Mutate x) b t a never _ is = absurd (never x refl)
-left_to_looking asks means (asked.End x y) b t a _ never is = absurd (never x y refl)
-left_to_looking asks means other b t a _ _ is = is
+left_to_looking : (has : Bytes → Bool) (means : Meanings) (what : Asked) (b : PlaceState) (t : Told) (a : PlaceState)
+    → ((x : _) → what ≡ asked.Mutate x → ⊥) → ((x : _) (y : _) → what ≡ asked.End x y → ⊥)
+    → AnswersLooking means what b t a → AnswersCalm has means what b t a
+left_to_looking has means (asked.Mutate x) b t a never _ is = absurd (never x refl)
+left_to_looking has means (asked.End x y) b t a _ never is = absurd (never x y refl)
+left_to_looking has means other b t a _ _ is = is
 
-pub calm_told : (asks : Bool) (means : Meanings) (what : Asked) (b : PlaceState) (t : Told) (a : PlaceState)
+pub calm_told : (has : Bytes → Bool) (means : Meanings) (what : Asked) (b : PlaceState) (t : Told) (a : PlaceState)
     → b.asking ≡ None → ((x : _) → what ≡ asked.Mutate x → ⊥) → ((x : _) (y : _) → what ≡ asked.End x y → ⊥)
-    → (MayLack what × Lacks b t a) ⊎ AnswersLooking means what b t a → MayAnswer asks means what b t a
-calm_told asks means what b t a none no_mutation no_end (inl lacks) =
-    subst (λ o. MayAnswerAt asks means what o b t a) (sym none) (inl lacks)
-calm_told asks means what b t a none no_mutation no_end (inr is) =
-    subst (λ o. MayAnswerAt asks means what o b t a) (sym none)
-    (inr (left_to_looking asks means what b t a no_mutation no_end is))
+    → (MayLack what × Lacks b t a) ⊎ AnswersLooking means what b t a → MayAnswer has means what b t a
+calm_told has means what b t a none no_mutation no_end (inl lacks) =
+    subst (λ o. MayAnswerAt has means what o b t a) (sym none) (inl lacks)
+calm_told has means what b t a none no_mutation no_end (inr is) =
+    subst (λ o. MayAnswerAt has means what o b t a) (sym none)
+    (inr (left_to_looking has means what b t a no_mutation no_end is))

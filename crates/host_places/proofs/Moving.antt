@@ -1,9 +1,9 @@
 -- Who is taken from a place and put there.
 use Rattle.std.proofs.Common.{◌≡◌, ℕ, List, Option, Some, None, refl, sym, ap, ◌∙◌, subst}
-use Rattle.std.specs.Prelude.{⊤, Bool, true, false, IfSome}
-use Rattle.std.proofs.lemmas.Bool.{false≢true}
+use Rattle.std.specs.Prelude.{⊤, Bool, true, false}
 use Rattle.std.proofs.Math.Logic.{∥∥₁_elim}
 use Rattle.std.specs.Coded.{Coded-set, codes}
+use Rattle.group_history.specs.Map.{Bytes}
 use Rattle.group_history.specs.Meaning.{Meanings}
 use Rattle.head_word.specs.contracts.entry.Entry as entry
 use Rattle.answered.specs.Answered.{own_moves}
@@ -23,11 +23,11 @@ use Rattle.host_places.specs.Told.{Told, told_alone}
 use Rattle.host_places.proofs.Telling.{at_some}
 
 -- who was put there may sit there
-pub can_sit : (asks : Bool) (means : Meanings) (v b : PlaceState) {M : Type 0} (now sitting : Sitting M) → v ≡ b
-    → now ≡ sitting → CanSit asks means b.group sitting → CanSit asks means v.group now
-can_sit asks means v b now sitting is same fits =
-    subst (CanSit asks means v.group) (sym same)
-    (subst (λ (p : PlaceState). CanSit asks means p.group sitting) (sym is) fits)
+pub can_sit : (has : Bytes → Bool) (means : Meanings) (v b : PlaceState) {M : Type 0} (now sitting : Sitting M) → v ≡ b
+    → now ≡ sitting → CanSit has means b.group sitting → CanSit has means v.group now
+can_sit has means v b now sitting is same fits =
+    subst (CanSit has means v.group) (sym same)
+    (subst (λ (p : PlaceState). CanSit has means p.group sitting) (sym is) fits)
 
 -- the client is one of the group, as the one before it
 pub at_later : (group : Grouped) (before after : ClientState) → IsAt group before → Acts ⊤ before after
@@ -110,10 +110,3 @@ left_asked means b taken new a client is left given gone =
       told = refl;
       left = gone.2 ∙ ap (λ (p : PlaceState). free_place p.group gone.0) left;
     })
-
--- ---- where no change asks for a run
-
-pub asks_none : (asks : Bool) (o : Option UnderWay) (P : UnderWay → Type 0) → IfSome o (λ a. (asks ≡ true) × P a)
-    → asks ≡ false → o ≡ None
-asks_none asks None P is off = refl
-asks_none asks (Some a) P is off = absurd (false≢true (sym off ∙ is.0))

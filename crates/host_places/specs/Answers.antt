@@ -1,29 +1,21 @@
--- What each call may tell at a place where no change asks for a run, and how it leaves the place.
+-- What each call that is no change may tell where no run is asked for, and how it leaves the place.
 --
 -- A client's own call is made, as `rebase` says it, and its reply is told. Where the bytes of the host say nothing, or
 -- nobody sits there, or a number names nothing, that is told, and the place is as it was.
 use Rattle.std.specs.Prelude.{ℕ, ◌≡◌, ◌⊎◌, ◌+◌, ◌++◌, ◌∷◌, ⊤, [], List, length, Option, Some, None, Result, Ok, Err}
 use Rattle.std.specs.Prelude.{IfErr, IfOk, slice_get, slice_set}
-use Rattle.group_history.specs.declared.changes.Change.TheVariants.{Mutated}
 use Rattle.group_history.specs.declared.refusals.Refusal.{Refusal}
-use Rattle.group_history.specs.declared.responses.Ended.{Ended}
 use Rattle.group_history.specs.declared.scans.Scan.{Scan}
 use Rattle.group_history.specs.Map.{Bytes}
 use Rattle.group_history.specs.Meaning.{Meanings}
-use Rattle.group_history.specs.Mutating.{mutate_reply}
 use Rattle.group_history.specs.Queries.{get_at, has_at, view_rows}
 use Rattle.group_history.specs.State.{State, last_id, made}
-use Rattle.pull_patch.specs.Grammar.{answer_to}
 use Rattle.push_body.specs.Bodies.{push_text}
 use Rattle.answered.specs.Answered.{IsAnswered, IsLeft, IsLinearized, no_change}
-use Rattle.answered.specs.Changes.{change_made, change_read}
 use Rattle.chunk_slots.specs.Seats.{IsIdle}
 use Rattle.commit_graph.specs.Seats.{HasLooked, Seated}
-use Rattle.group_steps.specs.Causes.{HasCause}
-use Rattle.group_steps.specs.Leaving.{Frees, spared}
 use Rattle.group_steps.specs.Missing.{IsMissedOrDry, IsStoreRefusal}
-use Rattle.rebase.specs.Asking.{change_wanted, end_bytes_reply}
-use Rattle.rebase.specs.Clients.{Acts, ClientState, Looks, Rests, Stays}
+use Rattle.rebase.specs.Clients.{ClientState, Looks, Rests, Stays}
 use Rattle.rebase.specs.Queries.{asked_at, Asked as Begun}
 use Rattle.rebase.specs.Watching.{Watched, poll_at, watch_after}
 use Rattle.rebase.specs.declared.tickets.Ticket.{Ticket}
@@ -38,7 +30,7 @@ use Rattle.host_places.specs.declared.faults.Fault.TheVariants as fault
 use Rattle.host_places.specs.Asking.{scan_said, text_said, uuid_said}
 use Rattle.host_places.specs.Places.{IsKeptAt, PlaceState, free_place, sat, ticket_at, unsat, with_client, with_tickets}
 use Rattle.host_places.specs.Places.{with_watches}
-use Rattle.host_places.specs.Told.{Told, bytes_told, cookie_told, dry, ended_told, id_told, is_told, pending_told}
+use Rattle.host_places.specs.Told.{Told, bytes_told, cookie_told, dry, id_told, is_told, pending_told}
 use Rattle.host_places.specs.Told.{polled_told, rows_told, tells, told, told_alone, value_told}
 
 -- how often a call begins anew that others are in the way of
@@ -204,42 +196,6 @@ pub record Polls (means : Meanings) (client : ClientState) (n : ℕ) (watch : Wa
   pub stays : Stays ⊤ client next
   pub told : t ≡ tells polled_told reply
   pub left : after ≡ with_watches next (slice_set before.watches n (watch_after watch reply)) before
-
--- ---- changes
-
--- a mutation is made: its id is told
-pub record Mutates (means : Meanings) (client : ClientState) (name args : Bytes) (time : ℕ) (before : PlaceState)
-    (t : Told) (after : PlaceState) : Type 0 where
-  pub reply : Result ℕ Refusal
-  pub next : ClientState
-  pub answer : IsLinearized means tries client.seat.mark next.seat.mark reply
-      (change_made (made client.id (client.last + 1) name args time))
-      (λ s. mutate_reply means s client.last (made client.id (client.last + 1) name args time))
-  pub id : IfOk reply (λ n. (n ≡ client.last + 1) × (next.last ≡ n))
-  pub last : IfErr reply (λ _. next.last ≡ client.last)
-  pub acts : Acts ⊤ client next
-  pub cause : IfErr reply (HasCause means ⊤ client.last
-      (Some (Mutated (made client.id (client.last + 1) name args time))) client.seat next.seat)
-  pub frees : Frees (Some (Mutated (made client.id (client.last + 1) name args time))) (spared reply) client.seat
-      next.seat (change_made (made client.id (client.last + 1) name args time) reply)
-  pub told : t ≡ tells id_told reply
-  pub left : after ≡ with_client next before
-
--- a pull is ended with the bytes of a response; its ticket stays
-pub record Ends (means : Meanings) (client : ClientState) (kept : Ticket) (body : Bytes) (before : PlaceState)
-    (t : Told) (after : PlaceState) : Type 0 where
-  pub reply : Result Ended Refusal
-  pub next : ClientState
-  pub answer : IsLinearized means tries client.seat.mark next.seat.mark reply
-      (change_read kept.cookie (answer_to body)) (λ s. end_bytes_reply s kept.cookie.text body)
-  pub last : next.last ≡ client.last
-  pub acts : Acts ⊤ client next
-  pub cause : IfErr reply (HasCause means ⊤ client.last (change_wanted kept.cookie (answer_to body))
-      client.seat next.seat)
-  pub frees : Frees (change_wanted kept.cookie (answer_to body)) (spared reply) client.seat next.seat
-      (change_read kept.cookie (answer_to body) reply)
-  pub told : t ≡ tells ended_told reply
-  pub left : after ≡ with_client next before
 
 -- ---- any call that is no change of the group
 

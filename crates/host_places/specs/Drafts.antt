@@ -1,9 +1,9 @@
 -- What each call may tell at a place whose change asks for a run, and how it leaves the place.
 --
 -- The host reads and writes the run's map, and says how the run ended; then the change goes on: the next run is asked
--- for, or the change ends, and tells what it would have told at once. All else is refused there, but that the client
+-- for, or the change ends, and tells what it tells where the group has all mutators. All else is refused there, but that the client
 -- may leave, which gives the change up.
-use Rattle.std.specs.Prelude.{ℕ, ◌≡◌, ◌⊎◌, ◌+◌, Result, IfErr, IfOk, ⊤}
+use Rattle.std.specs.Prelude.{ℕ, ◌≡◌, ◌⊎◌, ◌+◌, Bool, Result, IfErr, IfOk, ⊤}
 use Rattle.std.specs.FinMap as finite
 use Rattle.group_history.specs.declared.refusals.Refusal.{Refusal}
 use Rattle.group_history.specs.declared.changes.Change.{Change}
@@ -52,18 +52,18 @@ pub record Replies (ends : ClientState → Result Replied Refusal → Type 0) (b
 abbrev pub mutation_of : ClientState → Bytes → Bytes → ℕ → Change
 mutation_of client name args time = Mutated (made client.id (client.last + 1) name args time)
 
--- a mutation is made: its run is asked for; or the call ends before
-abbrev pub AsksToMutate : Meanings → ClientState → Bytes → Bytes → ℕ → Rule
-AsksToMutate means client name args time before t after =
-    AsksRun (AsksFor means client (mutation_of client name args time)) before t after
+-- A mutation is made: where the group hasn't its mutator, the run is asked for; or the call ends, and its id is told.
+abbrev pub AsksToMutate : (Bytes → Bool) → Meanings → ClientState → Bytes → Bytes → ℕ → Rule
+AsksToMutate has means client name args time before t after =
+    AsksRun (AsksFor has means client (mutation_of client name args time)) before t after
     ⊎ Replies (λ next reply. EndsCall means ⊤ tries client next (mutation_of client name args time) reply)
     before t after
 
--- a pull is ended with the bytes of a response, and its ticket stays: the first run of what stays pending is asked for;
--- or the call ends, as where nothing does
-abbrev pub AsksToEnd : Meanings → ClientState → Ticket → Bytes → Rule
-AsksToEnd means client kept body before t after =
-    AsksRun (AsksAtEnd means client kept.cookie body) before t after
+-- A pull is ended with the bytes of a response, and its ticket stays: of what stays pending the first run is asked for
+-- whose mutator the group hasn't; or the call ends, as where it has all.
+abbrev pub AsksToEnd : (Bytes → Bool) → Meanings → ClientState → Ticket → Bytes → Rule
+AsksToEnd has means client kept body before t after =
+    AsksRun (AsksAtEnd has means client kept.cookie body) before t after
     ⊎ Replies (λ next reply. EndsPull means ⊤ tries client next kept.cookie body reply) before t after
 
 -- the run that is asked for there
@@ -98,8 +98,8 @@ WritesDraft change asking before t after = (next : UnderWay) × WritesMap change
 -- ---- the end of a run
 
 -- The next run is asked for, or the change ended.
-abbrev pub GoesOn : Meanings → Ran → UnderWay → Rule
-GoesOn means ran asking before t after = AsksRun (AsksNext means asking ran) before t after
+abbrev pub GoesOn : (Bytes → Bool) → Meanings → Ran → UnderWay → Rule
+GoesOn has means ran asking before t after = AsksRun (AsksNext has means asking ran) before t after
     ⊎ Replies (EndsRuns means asking) before t after
 
 -- The change is given up, and its client sits there.
@@ -125,9 +125,9 @@ pub record LeavesAsked (means : Meanings) (asking : UnderWay) (before : PlaceSta
   pub left : after ≡ free_place before.group seat
 
 -- what has to hold of a call: where it tells that a run has ended, the run is one of the group's meaning
-abbrev pub HasRunAsMeant : Meanings → PlaceState → Asked → Type 0
-HasRunAsMeant means place (asked.Ran kind code) = IsRunTold means place.asking (ran_said kind code)
-HasRunAsMeant means place other = ⊤
+abbrev pub HasRunAsMeant : (Bytes → Bool) → Meanings → PlaceState → Asked → Type 0
+HasRunAsMeant has means place (asked.Ran kind code) = IsRunTold has means place.asking (ran_said kind code)
+HasRunAsMeant has means place other = ⊤
 
 -- ---- any call, where a run is asked for
 
@@ -148,8 +148,9 @@ AnswersDraft (asked.DraftDel key) before = By (text_said key.now) (λ k. ByRun
 AnswersDraft other before = Tells (outcome.Faulty fault.Asks) before
 
 -- and how it ends
-abbrev pub AnswersAsked : Meanings → Asked → Rule
-AnswersAsked means asked.Leave before = ByRun (LeavesAsked means) before
-AnswersAsked means (asked.Ran kind code) before = By (ran_said kind code) (λ ran. ByRun (GoesOn means ran)) before
-AnswersAsked means asked.GiveUp before = ByRun (GivesUp means) before
-AnswersAsked means other before = AnswersDraft other before
+abbrev pub AnswersAsked : (Bytes → Bool) → Meanings → Asked → Rule
+AnswersAsked has means asked.Leave before = ByRun (LeavesAsked means) before
+AnswersAsked has means (asked.Ran kind code) before = By (ran_said kind code) (λ ran. ByRun (GoesOn has means ran))
+    before
+AnswersAsked has means asked.GiveUp before = ByRun (GivesUp means) before
+AnswersAsked has means other before = AnswersDraft other before

@@ -47,9 +47,9 @@ IsCall (asked.Ran kind code) what m n a b = (what ≡ 23) × (kind ≡ m) × (co
 IsCall asked.GiveUp what m n a b = what ≡ 24
 
 -- The call of these numbers is answered; a number above 24 is that of no call.
-abbrev pub MayAnswerNumbers : Bool → Meanings → ℕ → ℕ → ℕ → Bytes → Bytes → Rule
-MayAnswerNumbers asks means what m n a b before t after =
-    ((x : Asked) × IsCall x what m n a b × MayAnswer asks means x before t after)
+abbrev pub MayAnswerNumbers : (Bytes → Bool) → Meanings → ℕ → ℕ → ℕ → Bytes → Bytes → Rule
+MayAnswerNumbers has means what m n a b before t after =
+    ((x : Asked) × IsCall x what m n a b × MayAnswer has means x before t after)
     ⊎ ((24 < what) × Tells (outcome.Faulty fault.OutOfRange) before t after)
 
 -- The number of a refusal is the group's; a mutator's code and the kind of a version are told beside it.

@@ -20,27 +20,25 @@ use Rattle.rebase.specs.Running.{BeganAs, EndsCall, Follows, IsAsked, IsFirst, I
 use Rattle.host_places.specs.declared.outcomes.Outcome.{Outcome}
 use Rattle.host_places.specs.Answers.{tries}
 
--- a group whose mutators are the host's own runs none itself
-abbrev pub none_own : Bytes → Bool
-none_own name = false
-
--- The first run is asked for by this change, of a call that began with this client. Nothing is written to its map yet.
-abbrev pub AsksFor : Meanings → ClientState → Change → UnderWay → Type 0
-AsksFor means client change asking = IsAsked means ⊤ tries client change asking × IsFirst none_own asking
-    × IsUnwritten none_own asking
+-- The first run that the group doesn't make itself is asked for by this change, of a call that began with this client.
+-- Nothing is written to its map yet.
+abbrev pub AsksFor : (Bytes → Bool) → Meanings → ClientState → Change → UnderWay → Type 0
+AsksFor has means client change asking = IsAsked means ⊤ tries client change asking × IsFirst has asking
+    × IsUnwritten has asking
 
 -- and at the end of a pull, by the response that the bytes are
-abbrev pub AsksAtEnd : Meanings → ClientState → Cookie → Bytes → UnderWay → Type 0
-AsksAtEnd means client ticket body asking = ((r : Pull) × (answer_to body ≡ Ok (response.Ok r))
-    × IsAsked means ⊤ tries client (Pulled ticket r) asking) × IsFirst none_own asking × IsUnwritten none_own asking
+abbrev pub AsksAtEnd : (Bytes → Bool) → Meanings → ClientState → Cookie → Bytes → UnderWay → Type 0
+AsksAtEnd has means client ticket body asking = ((r : Pull) × (answer_to body ≡ Ok (response.Ok r))
+    × IsAsked means ⊤ tries client (Pulled ticket r) asking) × IsFirst has asking × IsUnwritten has asking
 
--- After a run that ended so, this one is asked for: the one behind it, from the map that it left; or, where others moved
--- the head first, the first one of a later try. It is of the same change, and of the same call, whichever client that
--- began with.
-pub record AsksNext (means : Meanings) (was : UnderWay) (ran : Ran) (asking : UnderWay) : Type 0 where
-  pub follows : Follows none_own means was ran asking
-  pub fresh : IsUnwritten none_own asking
-  pub asked : (c : ClientState) → BeganAs means ⊤ c was → IsAsked means ⊤ was.tries c was.change asking
+-- After a run that ended so, this one is asked for: the next one behind it that the group doesn't make itself, from the
+-- map that those before left; or, where others moved the head first, the first one of a later try. It is of the same
+-- change, and of the same call, whichever client that began with.
+pub record AsksNext (has : Bytes → Bool) (means : Meanings) (was : UnderWay) (ran : Ran) (asking : UnderWay) : Type 0
+  where
+    pub follows : Follows has means was ran asking
+    pub fresh : IsUnwritten has asking
+    pub asked : (c : ClientState) → BeganAs means ⊤ c was → IsAsked means ⊤ was.tries c was.change asking
 
 -- or the call ends so, as one that was made at once
 abbrev pub EndsRuns : Meanings → UnderWay → ClientState → Result Replied Refusal → Type 0
@@ -52,14 +50,19 @@ abbrev pub IsBegunAt : Meanings → Grouped → UnderWay → Type 0
 IsBegunAt means group asking = ∥ ((c : ClientState) × (c.group ≡ group) × IsSeatOf group.group c.seat
     × BeganAs means ⊤ c asking) ∥₁
 
+-- It is asked for of the host: the group has no mutator of this name.
+abbrev pub IsAsking : (Bytes → Bool) → Meanings → Grouped → UnderWay → Type 0
+IsAsking has means group asking = (has asking.mutation.name ≡ false) × IsBegunAt means group asking
+
 -- The premise of a host's own mutators. The run that a host tells of is one of the group's meaning: it ended as that
 -- says, by the name, the arguments and the reason that were asked, at the map where the run began; and where it was
 -- done, the run's map is the one that the meaning leaves. Where no run is asked for, or the numbers say no end, nothing
--- has to hold.
-abbrev pub IsRunTold : Meanings → Option UnderWay → Result Ran Outcome → Type 0
-IsRunTold means (Some a) (Ok ran) = RunsAs (meaning_of means a.mutation a.start) ran a.map
-IsRunTold means (Some a) (Err e) = ⊤
-IsRunTold means None said = ⊤
+-- has to hold; nor where the group has all mutators, since it asks for no run.
+abbrev pub IsRunTold : (Bytes → Bool) → Meanings → Option UnderWay → Result Ran Outcome → Type 0
+IsRunTold has means (Some a) (Ok ran) = has a.mutation.name ≡ false
+    → RunsAs (meaning_of means a.mutation a.start) ran a.map
+IsRunTold has means (Some a) (Err e) = ⊤
+IsRunTold has means None said = ⊤
 
 -- The call that began with this client and asked for the change was given up: it left the group as others did, and the
 -- client has its last id.

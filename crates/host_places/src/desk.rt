@@ -1,5 +1,5 @@
 //! A place, and the bytes that its last call told.
-ghost use Rattle.std.specs.Prelude.{◌≡◌, true, false};
+ghost use Rattle.std.specs.Prelude.{◌≡◌};
 ghost use Rattle.host_places.specs.Calls.{MayAnswer};
 ghost use Rattle.host_places.specs.Closing.{Closes};
 ghost use Rattle.host_places.specs.Asking.{ran_said};
@@ -9,23 +9,22 @@ ghost use Rattle.host_places.specs.Runs.{IsRunTold};
 ghost use Rattle.host_places.specs.Told.{told};
 
 use crate::asked::Asked;
-use crate::changes::{AtOnce, Changes, OwnMutators, PickedMeaning};
 use crate::faults::Fault;
+use crate::mutators::{HostRuns, Hosted};
 use crate::outcomes::Outcome;
 use crate::place::Place;
-use group_history::{Means, Mutators};
 use rebase::{Arena, Seat};
 use std::alloc::Global;
 use std::marker::Model;
 
 /// A place, and the bytes that its last call told, which lie there until the next one. It can't be dropped: it is closed,
 /// by `close` or with others by `close_places`.
-pub struct Desk<M: Means + Changes> {
+pub struct Desk<M: Hosted> {
     place: Place<M>,
     bytes: Vec<u8>,
 }
 
-impl<M: Means + Changes> Model for Desk<M> {
+impl<M: Hosted> Model for Desk<M> {
     ghost use Rattle.std.specs.Coded.{codes};
     ghost use Rattle.std.specs.Vec.{vec_ptr};
     ghost use Rattle.group_history.specs.contracts.changes.Change as the_change;
@@ -41,7 +40,7 @@ impl<M: Means + Changes> Model for Desk<M> {
     ghost view = { λ d. record { place = d.place; bytes = d.bytes.items; start = vec_ptr d.bytes } };
 }
 
-impl<M: Means + Changes> Desk<M> {
+impl<M: Hosted> Desk<M> {
     pub(crate) fn new(alloc: Global, place: Place<M>) -> Desk<M>
         ensures { result.place ≡ place }
     {
@@ -74,49 +73,25 @@ impl<M: Means + Changes> Desk<M> {
     }
 }
 
-impl<M: Mutators + AtOnce> Desk<M> {
-    /// Makes a call.
+impl<M: HostRuns> Desk<M> {
+    /// Makes a call. Where it tells that a run has ended, the run is one of what the group's mutators mean.
     pub fn call(&mut self, asked: Asked<'_>) -> Outcome
-        ensures { MayAnswer false M.means asked.entry self.old.place (told result self.new.bytes) self.new.place }
+        requires { HasRunAsMeant M.had M.means self.old.place asked }
+        ensures { MayAnswer M.had M.means asked.entry self.old.place (told result self.new.bytes) self.new.place }
     {
         self.bytes.clear();
         self.place.call(asked, &mut self.bytes)
     }
 
-    /// Makes the call of these numbers and bytes. A number above 24 is that of no call.
+    /// Makes the call of these numbers and bytes. A number above 24 is that of no call. Where it tells that a run has
+    /// ended, the run is one of what the group's mutators mean.
     pub fn call_numbered(&mut self, what: u32, m: u32, n: u64, a: &[u8], b: &[u8]) -> Outcome
-        ensures { MayAnswerNumbers false M.means what m n a.now b.now self.old.place (told result self.new.bytes)
+        requires { what ≡ 23 → IsRunTold M.had M.means self.old.place.asking (ran_said m n) }
+        ensures { MayAnswerNumbers M.had M.means what m n a.now b.now self.old.place (told result self.new.bytes)
             self.new.place }
     {
         match Asked::of(what, m, n, a, b) {
             Some(asked) => self.call(asked),
-            None => {
-                self.bytes.clear();
-                Outcome::Faulty(Fault::OutOfRange)
-            }
-        }
-    }
-}
-
-impl<B: PickedMeaning + Sync + Drop> Desk<OwnMutators<B>> {
-    /// Makes a call. Where it tells that a run has ended, the run is one of the group's meaning.
-    pub fn call_own(&mut self, asked: Asked<'_>) -> Outcome
-        requires { HasRunAsMeant B.meaning self.old.place asked }
-        ensures { MayAnswer true B.meaning asked.entry self.old.place (told result self.new.bytes) self.new.place }
-    {
-        self.bytes.clear();
-        self.place.call_own(asked, &mut self.bytes)
-    }
-
-    /// Makes the call of these numbers and bytes. A number above 24 is that of no call. Where it tells that a run has
-    /// ended, the run is one of the group's meaning.
-    pub fn call_own_numbered(&mut self, what: u32, m: u32, n: u64, a: &[u8], b: &[u8]) -> Outcome
-        requires { what ≡ 23 → IsRunTold B.meaning self.old.place.asking (ran_said m n) }
-        ensures { MayAnswerNumbers true B.meaning what m n a.now b.now self.old.place (told result self.new.bytes)
-            self.new.place }
-    {
-        match Asked::of(what, m, n, a, b) {
-            Some(asked) => self.call_own(asked),
             None => {
                 self.bytes.clear();
                 Outcome::Faulty(Fault::OutOfRange)

@@ -11,7 +11,6 @@ ghost use Rattle.host_places.specs.Told.{bytes_told, is_told, named_told, replie
 ghost use Rattle.host_places.specs.Told.{told_alone, value_told};
 ghost use Rattle.host_places.specs.Inside.Drafting.{MayTell};
 
-use crate::changes::Changes;
 use crate::faults::Fault;
 use crate::outcomes::Outcome;
 use crate::printing::print_rows;
@@ -20,7 +19,7 @@ use group_history::{Ended, Json, Means, Ran, Reason, Refusal, Scan};
 use rebase::{Arena, Asking, Reply};
 
 /// Tells the name of the mutator that is to be run, and for which reason.
-pub(crate) fn tell_name<M: Means + Changes + Sync>(
+pub(crate) fn tell_name<M: Means + Sync>(
     asking: &Asking<M, Arena<M>>,
     bytes: &mut Vec<u8>,
 ) -> Outcome
@@ -42,7 +41,7 @@ pub(crate) fn tell_name<M: Means + Changes + Sync>(
 }
 
 /// Tells the arguments on which it is to be run.
-pub(crate) fn tell_args<M: Means + Changes + Sync>(
+pub(crate) fn tell_args<M: Means + Sync>(
     asking: &Asking<M, Arena<M>>,
     bytes: &mut Vec<u8>,
 ) -> Outcome
@@ -57,7 +56,7 @@ pub(crate) fn tell_args<M: Means + Changes + Sync>(
 }
 
 /// Tells the value at a key of the run's map.
-pub(crate) fn tell_drafted<M: Means + Changes + Sync>(
+pub(crate) fn tell_drafted<M: Means + Sync>(
     asking: &Asking<M, Arena<M>>,
     key: &str,
     bytes: &mut Vec<u8>,
@@ -73,10 +72,7 @@ pub(crate) fn tell_drafted<M: Means + Changes + Sync>(
 }
 
 /// Tells whether the key is there in the run's map.
-pub(crate) fn tell_is_drafted<M: Means + Changes + Sync>(
-    asking: &Asking<M, Arena<M>>,
-    key: &str,
-) -> Outcome
+pub(crate) fn tell_is_drafted<M: Means + Sync>(asking: &Asking<M, Arena<M>>, key: &str) -> Outcome
     ensures { ReadsMap is_told (λ m. finite.contains_key m key.now) asking.now (told_alone result) }
 {
     match asking.get(key) {
@@ -86,7 +82,7 @@ pub(crate) fn tell_is_drafted<M: Means + Changes + Sync>(
 }
 
 /// Tells the rows of a scan of the run's map.
-pub(crate) fn tell_drafted_rows<M: Means + Changes + Sync>(
+pub(crate) fn tell_drafted_rows<M: Means + Sync>(
     asking: &Asking<M, Arena<M>>,
     scan: &Scan,
     bytes: &mut Vec<u8>,
@@ -101,7 +97,7 @@ pub(crate) fn tell_drafted_rows<M: Means + Changes + Sync>(
 }
 
 /// Puts a value into the run's map.
-pub(crate) fn put_drafted<M: Means + Changes + Sync>(
+pub(crate) fn put_drafted<M: Means + Sync>(
     asking: &mut Asking<M, Arena<M>>,
     key: &str,
     value: &Json,
@@ -112,10 +108,7 @@ pub(crate) fn put_drafted<M: Means + Changes + Sync>(
 }
 
 /// Takes a key out of the run's map.
-pub(crate) fn del_drafted<M: Means + Changes + Sync>(
-    asking: &mut Asking<M, Arena<M>>,
-    key: &str,
-) -> Outcome
+pub(crate) fn del_drafted<M: Means + Sync>(asking: &mut Asking<M, Arena<M>>, key: &str) -> Outcome
     ensures { WritesMap (λ m. finite.remove m key.now) asking.old (told_alone result) asking.new }
 {
     written(asking.del(key))

@@ -2,16 +2,17 @@
 //!
 //! A group is opened with so many places. A client sits down at one, makes its calls and leaves; another one may sit
 //! there then. A host names calls, tickets and watches by numbers, and gives and takes bytes. `place` has what each
-//! call does, `own` those where the mutators are the host's own, `reading` and `drafts` what queries tell, `texts` what
-//! the bytes of a host say, `printing` the texts of rows, which are those of scripts, `desk` a place with the bytes that
-//! its last call told.
+//! call does that is no change, `changes` the others, `reading` and `drafts` what queries tell, `texts` what the bytes
+//! of a host say, `printing` the texts of rows, which are those of scripts, `desk` a place with the bytes that its last
+//! call told.
 //!
 //! What each call may tell, and how it leaves the place, is `specs/Answers.antt`: the client's own call of `rebase` is
 //! made, and its reply is told. No call waits: one begins anew 1,000,000 times where others are in its way.
 //!
-//! Mutators may be the host's own (`changes`). Then a change asks for each run, which the host does on the run's map
-//! (`drafts`, `specs/Drafts.antt`), and the place has the change in place of its client. Which of the two a group has
-//! is a matter of its type: a place of rules never asks, and its calls have no premise.
+//! A group has its rules, and a name without one is a mutator of scripts or of the host's own (`mutators`). For a run
+//! of its own mutators a change asks the host, which does it on the run's map (`drafts`, `specs/Drafts.antt`); the
+//! place has the change in place of its client meanwhile. That the host's runs are what its mutators mean is a premise
+//! of the call that tells of one, and of no other: a host without mutators of its own has none to keep.
 //!
 //! Decisions. Whether a run is asked for comes first: it says which calls there are. Then the arguments are read, and
 //! then it is looked who sits there. A refused call has told no bytes. A poll
@@ -26,9 +27,9 @@ mod changes;
 mod desk;
 mod drafts;
 mod faults;
+mod mutators;
 mod opening;
 mod outcomes;
-mod own;
 mod place;
 mod printing;
 mod reading;
@@ -38,9 +39,9 @@ mod tickets;
 mod watches;
 
 pub use asked::{Asked, Named, Range};
-pub use changes::{AtOnce, Changes, OwnMutators, PickedMeaning};
 pub use desk::Desk;
 pub use faults::Fault;
+pub use mutators::{HostMutators, HostRuns, Hosted, Picked};
 pub use opening::{Opening, close_places, open_places};
 pub use outcomes::Outcome;
 pub use place::Place;

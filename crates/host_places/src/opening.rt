@@ -11,13 +11,13 @@ ghost use Rattle.host_places.specs.Inside.Filling.{IsAdded};
 ghost use Rattle.host_places.specs.Opening.{AreOpened, IsNew, IsWant, id_said, identity_said, layout_for};
 ghost use Rattle.host_places.specs.Places.{free_place};
 
-use crate::changes::Changes;
 use crate::desk::Desk;
 use crate::faults::Fault;
+use crate::mutators::Hosted;
 use crate::outcomes::Outcome;
 use crate::place::Place;
 use crate::texts::{text_of, uuid_of};
-use group_history::{Means, Refusal, Text};
+use group_history::{Refusal, Text};
 use rebase::{Arena, Config, Group, Identity, Seat, Seats, Uuid};
 use std::alloc::{AllocError, AllocFailed, Global};
 use std::sync::Arc;
@@ -67,7 +67,7 @@ fn config_of(alloc: Global, with: Opening<'_>) -> Result<Config, Outcome>
 }
 
 // A place with this seat.
-fn desk_at<M: Means + Changes>(
+fn desk_at<M: Hosted>(
     alloc: Global,
     group: &Arc<Group<M, Arena<M>>, Global>,
     seat: Seat<M, Arena<M>>,
@@ -80,7 +80,7 @@ fn desk_at<M: Means + Changes>(
 }
 
 /// Closes places, the last one first: who sits at them leaves, and changes that ask for runs are given up.
-pub fn close_places<M: Means + Changes>(desks: Vec<Desk<M>>) {
+pub fn close_places<M: Hosted>(desks: Vec<Desk<M>>) {
     let mut desks = desks;
     while let Some(desk) = desks.pop() {
         drop(desk.close());
@@ -89,7 +89,7 @@ pub fn close_places<M: Means + Changes>(desks: Vec<Desk<M>>) {
 }
 
 // One more place, with this seat.
-fn add_desk<M: Means + Changes>(
+fn add_desk<M: Hosted>(
     alloc: Global,
     group: &Arc<Group<M, Arena<M>>, Global>,
     seat: Seat<M, Arena<M>>,
@@ -109,7 +109,7 @@ fn add_desk<M: Means + Changes>(
 }
 
 // A place for each seat, the last one first.
-fn fill_desks<M: Means + Changes + Sync>(
+fn fill_desks<M: Hosted + Sync>(
     alloc: Global,
     group: &Arc<Group<M, Arena<M>>, Global>,
     seats: &mut Seats<M, Arena<M>>,
@@ -128,7 +128,7 @@ fn fill_desks<M: Means + Changes + Sync>(
 }
 
 // A place for each seat of the group.
-fn desks_of<M: Means + Changes + Sync>(
+fn desks_of<M: Hosted + Sync>(
     alloc: Global,
     group: Arc<Group<M, Arena<M>>, Global>,
     seats: Seats<M, Arena<M>>,
@@ -152,7 +152,7 @@ fn desks_of<M: Means + Changes + Sync>(
     }
 }
 
-fn desks_at<M: Means + Changes + Sync>(
+fn desks_at<M: Hosted + Sync>(
     alloc: Global,
     group: Group<M, Arena<M>>,
     seats: Seats<M, Arena<M>>,
@@ -168,7 +168,7 @@ fn desks_at<M: Means + Changes + Sync>(
 
 /// Opens a group, and answers its places. Refused where an argument says nothing, and for want of memory; `Busy` and
 /// `Full` do not come.
-pub fn open_places<M: Means + Changes + Sync>(
+pub fn open_places<M: Hosted + Sync>(
     alloc: Global,
     with: Opening<'_>,
     mutators: M,

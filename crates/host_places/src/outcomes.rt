@@ -1,10 +1,10 @@
 //! What a call came to.
 ghost use Rattle.std.specs.Prelude.{◌≡◌};
 ghost use Rattle.host_places.specs.Numbers.{kind_number, outcome_code, outcome_number, outcome_value, refusal_code};
-ghost use Rattle.host_places.specs.Told.{ended_told, id_told, tells, told_alone};
+ghost use Rattle.host_places.specs.Told.{id_told, tells, told_alone};
 
 use crate::faults::Fault;
-use group_history::{Ended, Refusal, VersionKind};
+use group_history::{Refusal, VersionKind};
 
 /// What a call came to. What else it told is bytes.
 #[derive(Clone, Copy, Debug, PartialEq, Eq)]
@@ -58,17 +58,6 @@ impl Outcome {
             Outcome::Refused(refusal) => refusal_code(refusal),
             _ => 0,
         }
-    }
-}
-
-/// How a pull was ended.
-pub(crate) fn ended_outcome(reply: Result<Ended, Refusal>) -> Outcome
-    ensures { told_alone result ≡ tells ended_told reply }
-{
-    match reply {
-        Ok(Ended::Applied) => Outcome::Done,
-        Ok(Ended::Same) => Outcome::Nothing,
-        Err(refusal) => Outcome::Refused(refusal),
     }
 }
 

@@ -1,14 +1,14 @@
 //! A place at a group, and its calls.
-ghost use Rattle.std.specs.Prelude.{◌≡◌, ◌⊎◌, [], None, false, slice_get};
+ghost use Rattle.std.specs.Prelude.{◌≡◌, ◌⊎◌, [], slice_get};
 ghost use Rattle.std.specs.Arc.{arc_value};
 ghost use Rattle.group_history.specs.Queries.{get_at, has_at, view_rows};
 ghost use Rattle.commit_graph.specs.Seats.{IsSeatOf};
 ghost use Rattle.push_body.specs.Bodies.{push_text};
 ghost use Rattle.host_places.specs.declared.faults.Fault.TheVariants as fault;
-ghost use Rattle.host_places.specs.Answers.{AnswersLooking, AnswersReading, At, Begins, By, ByClient, Ends, Forgets};
-ghost use Rattle.host_places.specs.Answers.{Lacks, Leaves, Mutates, Polls, Reads, Refreshes, Sits, Watches};
-ghost use Rattle.host_places.specs.Asking.{named_said, scan_said, text_said, uuid_said};
-ghost use Rattle.host_places.specs.Calls.{MayAnswer, MayLack};
+ghost use Rattle.host_places.specs.Answers.{AnswersLooking, AnswersReading, At, Begins, By, ByClient, Forgets};
+ghost use Rattle.host_places.specs.Answers.{Lacks, Leaves, Polls, Reads, Refreshes, Sits, Watches};
+ghost use Rattle.host_places.specs.Asking.{scan_said, text_said, uuid_said};
+ghost use Rattle.host_places.specs.Calls.{MayLack};
 ghost use Rattle.host_places.specs.Closing.{Closes};
 ghost use Rattle.host_places.specs.Inside.Sitting.{CanSit, IsAt, IsLeft, IsTaken, IsTakenFrom, with_sitting};
 ghost use Rattle.host_places.specs.Places.{free_place, ticket_at};
@@ -16,17 +16,16 @@ ghost use Rattle.host_places.specs.Told.{bytes_told, cookie_told, is_told, pendi
 ghost use Rattle.host_places.specs.Told.{value_told};
 
 use crate::asked::{Asked, Named, Range};
-use crate::changes::{AtOnce, Changes};
 use crate::faults::Fault;
-use crate::outcomes::{Outcome, ended_outcome, id_outcome};
+use crate::mutators::Hosted;
+use crate::outcomes::{Outcome, id_outcome};
 use crate::reading::{
     tell_closed, tell_cookie, tell_has, tell_pending, tell_push, tell_rows, tell_value,
 };
 use crate::sitting::Sitting;
-use crate::texts::{named_of, scan_of, str_of, uuid_of};
-use crate::tickets::{forget_ticket, keep_reply, ticket_of};
+use crate::texts::{scan_of, str_of, uuid_of};
+use crate::tickets::{forget_ticket, keep_reply};
 use crate::watches::{keep_watch, poll_watch};
-use group_history::{Means, Mutators};
 use rebase::{Arena, Client, Group, Seat, Ticket, Watch};
 use std::alloc::Global;
 use std::marker::Model;
@@ -37,7 +36,7 @@ use std::sync::Arc;
 pub(crate) const TRIES: u32 = 1_000_000;
 
 /// A place at a group: who sits there, with what it keeps for its host. It can't be dropped: it is closed.
-pub struct Place<M: Means + Changes> {
+pub struct Place<M: Hosted> {
     pub(crate) alloc: Global,
     group: Arc<Group<M, Arena<M>>, Global>,
     pub(crate) sitting: Sitting<M>,
@@ -45,18 +44,18 @@ pub struct Place<M: Means + Changes> {
     watches: Vec<Watch<M>>,
 }
 
-impl<M: Means + Changes> Model for Place<M> {
+impl<M: Hosted> Model for Place<M> {
     ghost use Rattle.std.specs.Arc.{arc_value};
     ghost use Rattle.std.specs.Coded.{codes};
     ghost use Rattle.std.specs.List.{All};
-    ghost use Rattle.std.specs.Prelude.{◌≡◌, true, IfSome};
+    ghost use Rattle.std.specs.Prelude.{◌≡◌, IfSome};
     ghost use Rattle.group_history.specs.contracts.changes.Change as the_change;
     ghost use Rattle.group_history.specs.contracts.mutations.Mutation as the_mutation;
     ghost use Rattle.head_word.specs.contracts.entry.Entry as entry;
     ghost use Rattle.group_steps.specs.Rooting.{entries_coded};
     ghost use Rattle.commit_graph.specs.Seats.{IsSeatOf};
     ghost use Rattle.host_places.specs.Places.{PlaceState};
-    ghost use Rattle.host_places.specs.Runs.{IsBegunAt};
+    ghost use Rattle.host_places.specs.Runs.{IsAsking};
     ghost use Rattle.host_places.specs.Sitting.{asking_of, client_of, seat_of};
 
     ghost Value = { PlaceState };
@@ -75,11 +74,11 @@ impl<M: Means + Changes> Model for Place<M> {
     ghost invariant = { λ p. IfSome (seat_of p.sitting) (IsSeatOf (arc_value p.group).group)
         × IfSome (client_of p.sitting) (λ c. (c.group ≡ arc_value p.group)
         × IsSeatOf (arc_value p.group).group c.seat)
-        × IfSome (asking_of p.sitting) (λ a. (M.asks ≡ true) × IsBegunAt M.means (arc_value p.group) a)
+        × IfSome (asking_of p.sitting) (IsAsking M.had M.means (arc_value p.group))
         × All (λ w. w.book ≡ (arc_value p.group).group.book) p.watches.items };
 }
 
-impl<M: Means + Changes> Place<M> {
+impl<M: Hosted> Place<M> {
     /// A place with this seat, at which nobody sits.
     pub(crate) fn new(
         alloc: Global,
@@ -113,17 +112,17 @@ impl<M: Means + Changes> Place<M> {
     }
 }
 
-impl<M: Means + Changes + Sync> Place<M> {
+impl<M: Hosted + Sync> Place<M> {
     // Who sits there is taken away. It, or another one, is put there before the call ends.
     pub(crate) fn take(&mut self) -> Sitting<M>
-        ensures { IsTaken M.asks M.means result self.old self.new }
+        ensures { IsTaken M.had M.means result self.old self.new }
     {
         replace(&mut self.sitting, Sitting::Moving)
     }
 
     pub(crate) fn put(&mut self, sitting: Sitting<M>)
         requires taken { IsTakenFrom self.old }
-        requires fits { CanSit M.asks M.means self.old.group sitting }
+        requires fits { CanSit M.had M.means self.old.group sitting }
         ensures { self.new ≡ with_sitting sitting self.old }
     {
         let before = replace(&mut self.sitting, sitting);
@@ -370,57 +369,6 @@ impl<M: Means + Changes + Sync> Place<M> {
             Asked::Watch(range) => self.watch(range),
             Asked::Poll(number) => self.poll(number, bytes),
             other => self.call_reading(other, bytes),
-        }
-    }
-}
-
-impl<M: Mutators + AtOnce> Place<M> {
-    // No change asks for a run.
-    fn never_asks(&self)
-        ensures { self.now.asking ≡ None }
-    {
-        let _ = &self.sitting;
-    }
-
-    fn end(&mut self, number: u32, body: &[u8]) -> Outcome
-        ensures { ByClient (λ c b. At (ticket_at b.tickets number) fault.NoTicket
-            (λ kept. Ends M.means c kept body.now) b) self.old (told_alone result) self.new }
-    {
-        let Sitting::Client(client) = &mut self.sitting else {
-            return Outcome::Faulty(Fault::NoClient);
-        };
-        let Some(ticket) = ticket_of(&self.tickets, number as usize) else {
-            return Outcome::Faulty(Fault::NoTicket);
-        };
-        ended_outcome(client.try_end_pull(ticket, body, TRIES))
-    }
-
-    fn mutate(&mut self, named: Named<'_>) -> Outcome
-        ensures { Lacks self.old (told_alone result) self.new
-            ⊎ By (named_said named.entry.name.now named.entry.args.now)
-            (λ said. ByClient (λ c. Mutates M.means c said.0 said.1 named.entry.time)) self.old (told_alone result)
-            self.new }
-    {
-        let (name, args) = match named_of(self.alloc, named) {
-            Ok(said) => said,
-            Err(outcome) => return outcome,
-        };
-        let Sitting::Client(client) = &mut self.sitting else {
-            return Outcome::Faulty(Fault::NoClient);
-        };
-        id_outcome(client.try_mutate(&name, &args, named.time, TRIES))
-    }
-
-    /// Makes a call. What it tells as bytes is written, none where it was refused. No change asks for a run.
-    pub fn call(&mut self, asked: Asked<'_>, bytes: &mut Vec<u8>) -> Outcome
-        requires { bytes.old.items ≡ [] }
-        ensures { MayAnswer false M.means asked.entry self.old (told result bytes.new.items) self.new }
-    {
-        self.never_asks();
-        match asked {
-            Asked::Mutate(named) => self.mutate(named),
-            Asked::End(number, body) => self.end(number, body),
-            other => self.call_calm(other, bytes),
         }
     }
 }

@@ -1,5 +1,5 @@
 //! What a client reads, and how it is told.
-ghost use Rattle.std.specs.Prelude.{◌≡◌, ◌⊎◌, ⊤, [], Ok, IfErr, IfOk};
+ghost use Rattle.std.specs.Prelude.{◌≡◌, ⊤, [], Ok, IfErr, IfOk};
 ghost use Rattle.group_history.specs.Queries.{get_at, has_at, view_rows};
 ghost use Rattle.answered.specs.Answered.{IsLinearized, no_change};
 ghost use Rattle.group_steps.specs.Missing.{IsMissedOrDry, map_ok};
@@ -11,7 +11,6 @@ ghost use Rattle.host_places.specs.Told.{value_told};
 ghost use Rattle.host_places.specs.Inside.Reading.{MayRead};
 ghost use Rattle.host_places.specs.declared.outcomes.Outcome.TheVariants.{Done};
 
-use crate::changes::Changes;
 use crate::outcomes::Outcome;
 use crate::place::TRIES;
 use crate::printing::{print_pending, print_rows};
@@ -31,7 +30,7 @@ pub(crate) fn wrote(written: Result<(), AllocError>, bytes: &mut Vec<u8>) -> Out
     Outcome::Done
 }
 
-fn value_at<M: Means + Changes + Sync>(
+fn value_at<M: Means + Sync>(
     client: &mut Client<M, Arena<M>>,
     key: &str,
 ) -> Result<Option<Json>, Refusal>
@@ -47,7 +46,7 @@ fn value_at<M: Means + Changes + Sync>(
 }
 
 /// Tells the value at a key.
-pub(crate) fn tell_value<M: Means + Changes + Sync>(
+pub(crate) fn tell_value<M: Means + Sync>(
     client: &mut Client<M, Arena<M>>,
     key: &str,
     bytes: &mut Vec<u8>,
@@ -63,10 +62,7 @@ pub(crate) fn tell_value<M: Means + Changes + Sync>(
     }
 }
 
-fn is_there<M: Means + Changes + Sync>(
-    client: &mut Client<M, Arena<M>>,
-    key: &str,
-) -> Result<bool, Refusal>
+fn is_there<M: Means + Sync>(client: &mut Client<M, Arena<M>>, key: &str) -> Result<bool, Refusal>
     ensures answer { IsLinearized M.means TRIES client.old.seat.mark client.new.seat.mark result no_change
         (λ s. Ok (has_at M.means s key.now)) }
     ensures refused { IfErr result (IsMissedOrDry ⊤) }
@@ -79,10 +75,7 @@ fn is_there<M: Means + Changes + Sync>(
 }
 
 /// Tells whether a key is there.
-pub(crate) fn tell_has<M: Means + Changes + Sync>(
-    client: &mut Client<M, Arena<M>>,
-    key: &str,
-) -> Outcome
+pub(crate) fn tell_has<M: Means + Sync>(client: &mut Client<M, Arena<M>>, key: &str) -> Outcome
     ensures { ReadsBy is_told (λ s. has_at M.means s key.now) M.means client.old (told_alone result) client.new }
 {
     match is_there(client, key) {
@@ -91,7 +84,7 @@ pub(crate) fn tell_has<M: Means + Changes + Sync>(
     }
 }
 
-fn rows_at<M: Means + Changes + Sync>(
+fn rows_at<M: Means + Sync>(
     client: &mut Client<M, Arena<M>>,
     scan: &Scan,
 ) -> Result<Vec<(Text, Json)>, Refusal>
@@ -107,7 +100,7 @@ fn rows_at<M: Means + Changes + Sync>(
 }
 
 /// Tells the rows of a scan.
-pub(crate) fn tell_rows<M: Means + Changes + Sync>(
+pub(crate) fn tell_rows<M: Means + Sync>(
     client: &mut Client<M, Arena<M>>,
     scan: &Scan,
     bytes: &mut Vec<u8>,
@@ -122,9 +115,7 @@ pub(crate) fn tell_rows<M: Means + Changes + Sync>(
     }
 }
 
-fn pending_at<M: Means + Changes + Sync>(
-    client: &mut Client<M, Arena<M>>,
-) -> Result<Vec<Mutation>, Refusal>
+fn pending_at<M: Means + Sync>(client: &mut Client<M, Arena<M>>) -> Result<Vec<Mutation>, Refusal>
     ensures answer { IsLinearized M.means TRIES client.old.seat.mark client.new.seat.mark
         (map_ok (λ xs. xs.items) result) no_change (λ s. Ok s.pending) }
     ensures refused { IfErr result (IsMissedOrDry ⊤) }
@@ -137,7 +128,7 @@ fn pending_at<M: Means + Changes + Sync>(
 }
 
 /// Tells the pending mutations.
-pub(crate) fn tell_pending<M: Means + Changes + Sync>(
+pub(crate) fn tell_pending<M: Means + Sync>(
     client: &mut Client<M, Arena<M>>,
     bytes: &mut Vec<u8>,
 ) -> Outcome
@@ -150,7 +141,7 @@ pub(crate) fn tell_pending<M: Means + Changes + Sync>(
     }
 }
 
-fn cookie_at<M: Means + Changes + Sync>(client: &mut Client<M, Arena<M>>) -> Result<Cookie, Refusal>
+fn cookie_at<M: Means + Sync>(client: &mut Client<M, Arena<M>>) -> Result<Cookie, Refusal>
     ensures answer { IsLinearized M.means TRIES client.old.seat.mark client.new.seat.mark result no_change
         (λ s. Ok s.cookie) }
     ensures refused { IfErr result (IsMissedOrDry ⊤) }
@@ -163,7 +154,7 @@ fn cookie_at<M: Means + Changes + Sync>(client: &mut Client<M, Arena<M>>) -> Res
 }
 
 /// Tells the cookie.
-pub(crate) fn tell_cookie<M: Means + Changes + Sync>(
+pub(crate) fn tell_cookie<M: Means + Sync>(
     client: &mut Client<M, Arena<M>>,
     bytes: &mut Vec<u8>,
 ) -> Outcome
@@ -176,7 +167,7 @@ pub(crate) fn tell_cookie<M: Means + Changes + Sync>(
     }
 }
 
-fn closed_at<M: Means + Changes + Sync>(client: &mut Client<M, Arena<M>>) -> Result<bool, Refusal>
+fn closed_at<M: Means + Sync>(client: &mut Client<M, Arena<M>>) -> Result<bool, Refusal>
     ensures answer { IsLinearized M.means TRIES client.old.seat.mark client.new.seat.mark result no_change
         (λ s. Ok s.closed) }
     ensures refused { IfErr result (IsMissedOrDry ⊤) }
@@ -189,7 +180,7 @@ fn closed_at<M: Means + Changes + Sync>(client: &mut Client<M, Arena<M>>) -> Res
 }
 
 /// Tells whether the group is closed.
-pub(crate) fn tell_closed<M: Means + Changes + Sync>(client: &mut Client<M, Arena<M>>) -> Outcome
+pub(crate) fn tell_closed<M: Means + Sync>(client: &mut Client<M, Arena<M>>) -> Outcome
     ensures { ReadsBy is_told (λ s. s.closed) M.means client.old (told_alone result) client.new }
 {
     match closed_at(client) {
@@ -199,7 +190,7 @@ pub(crate) fn tell_closed<M: Means + Changes + Sync>(client: &mut Client<M, Aren
 }
 
 /// Tells the body of a push.
-pub(crate) fn tell_push<M: Means + Changes + Sync>(
+pub(crate) fn tell_push<M: Means + Sync>(
     client: &mut Client<M, Arena<M>>,
     bytes: &mut Vec<u8>,
 ) -> Outcome

@@ -5,12 +5,11 @@ ghost use Rattle.host_places.specs.Closing.{IsBack};
 ghost use Rattle.host_places.specs.Drafts.{HasLeftAsked};
 ghost use Rattle.host_places.specs.Sitting.{asking_of, client_of, seat_of};
 
-use crate::changes::Changes;
-use group_history::Means;
+use crate::mutators::Hosted;
 use rebase::{Arena, Asking, Client, Seat};
 
 /// Who sits at a place: nobody, at a seat; a client; or a client whose change asks for a run. So it can't be dropped.
-pub(crate) enum Sitting<M: Means + Changes> {
+pub(crate) enum Sitting<M: Hosted> {
     Nobody(Seat<M, Arena<M>>),
     Client(Client<M, Arena<M>>),
     Asking(Asking<M, Arena<M>>),
@@ -18,7 +17,7 @@ pub(crate) enum Sitting<M: Means + Changes> {
     Moving,
 }
 
-impl<M: Means + Changes> Sitting<M> {
+impl<M: Hosted> Sitting<M> {
     // Who sits there leaves, and the seat is answered. A change that asks for a run is given up first. As what calls it,
     // it asks for no bound that other threads rely on, so that a drop can close places.
     pub(crate) fn close(self) -> Option<Seat<M, Arena<M>>>

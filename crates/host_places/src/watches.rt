@@ -4,7 +4,6 @@ ghost use Rattle.rebase.specs.Clients.{Stays};
 ghost use Rattle.host_places.specs.Told.{dry, polled_told, tells, told, told_alone};
 ghost use Rattle.host_places.specs.Inside.Keeping.{IsPolled, KeepsWatch};
 
-use crate::changes::Changes;
 use crate::outcomes::Outcome;
 use crate::place::TRIES;
 use crate::printing::print_rows;
@@ -33,7 +32,7 @@ fn tell_polled(reply: Result<Polled, Refusal>, bytes: &mut Vec<u8>) -> Result<Ou
 }
 
 // Polls a copy of a watch, which is kept where what is new is told.
-fn poll_copy<M: Means + Changes + Sync>(
+fn poll_copy<M: Means + Sync>(
     client: &mut Client<M, Arena<M>>,
     watch: &mut Watch<M>,
     copy: Watch<M>,
@@ -60,7 +59,7 @@ fn poll_copy<M: Means + Changes + Sync>(
 }
 
 /// Polls a watch, and tells what is new. Where memory is refused the watch is as it was.
-pub(crate) fn poll_watch<M: Means + Changes + Sync>(
+pub(crate) fn poll_watch<M: Means + Sync>(
     client: &mut Client<M, Arena<M>>,
     watch: &mut Watch<M>,
     bytes: &mut Vec<u8>,
@@ -78,10 +77,7 @@ pub(crate) fn poll_watch<M: Means + Changes + Sync>(
 }
 
 /// Keeps a watch under the next number. Where memory is refused it is not kept.
-pub(crate) fn keep_watch<M: Means + Changes + Sync>(
-    watches: &mut Vec<Watch<M>>,
-    watch: Watch<M>,
-) -> Outcome
+pub(crate) fn keep_watch<M: Means + Sync>(watches: &mut Vec<Watch<M>>, watch: Watch<M>) -> Outcome
     ensures { KeepsWatch watch (told_alone result) watches.old.items watches.new.items }
 {
     let number = watches.len() as u64;

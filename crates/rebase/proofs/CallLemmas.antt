@@ -224,7 +224,8 @@ alone_replies means reused tries c old (x ∷ xs) (r ∷ rs) new end all alone =
     let f : moves_of_others new.mark ≡ moves_of_others old.mark = alone in
     let first : moves_of_others mid.mark ≡ moves_of_others old.mark = omega (arith, a, b, f) in
     let last : moves_of_others new.mark ≡ moves_of_others mid.mark = omega (arith, a, b, f) in
-    let turn = in_turn means tries old.mark mid.mark r (change_of c x) (λ s. reply_to means c s x) all.1.seat.later first
+    let turn = in_turn means tries old.mark mid.mark r (change_of c x)
+    (λ s. reply_to means c s x) all.1.seat.later first
     all.1.answer in (
       turn.0,
       subst (λ s. AreReplies means (caller_after c r) s xs rs (after (record_of new.mark.log)) end) turn.1
@@ -256,7 +257,8 @@ map_more f (y ∷ xs) x = ap (λ w. f y ∷ w) (map_more f xs x)
 
 -- a turn of the loop over the calls
 pub turn : (means : Meanings) (reused : Type 0) (tries : ℕ) (c d : Caller) (old mid new : Seated) (all : List Call)
-    (i : ℕ) (x : Call) (rs news : List (Result Reply Refusal)) (r : Result Reply Refusal) → i < length all → x ≡ get_or all i x
+    (i : ℕ) (x : Call) (rs news : List (Result Reply Refusal)) (r : Result Reply Refusal) → i < length all → x
+    ≡ get_or all i x
     → AreAnswered means reused tries c old (take i all) (map (map_ok reply_seen) rs) mid d
     → IsMade means reused tries d x (map_ok reply_seen r) mid new → news ≡ rs ++ r ∷ []
     → AreAnswered means reused tries c old (take (i + 1) all) (map (map_ok reply_seen) news) new

@@ -19,7 +19,8 @@ use Rattle.group_steps.proofs.Giving.{after_tries, cause_since, gives_calm, give
 -- CAUSES
 
 -- a right refusal needs none
-pub cause_named : (means : Meanings) (reused : Type 0) (last : ℕ) (asked : Option Change) (old new : Seated) (e : Refusal)
+pub cause_named : (means : Meanings) (reused : Type 0) (last : ℕ) (asked : Option Change) (old new : Seated)
+    (e : Refusal)
     → is_resource_refusal e ≡ false → HasCause means reused last asked old new e
 cause_named means reused last asked old new e named = record {
   full = λ r is. absurd (true≢false (sym (ap is_resource_refusal is) ∙ named));
@@ -29,7 +30,8 @@ cause_named means reused last asked old new e named = record {
 }
 
 -- what looks, and asks for no change, has no other causes
-pub cause_missed : (means : Meanings) (reused : Type 0) (last : ℕ) (asked : Option Change) (old new : Seated) (e : Refusal)
+pub cause_missed : (means : Meanings) (reused : Type 0) (last : ℕ) (asked : Option Change) (old new : Seated)
+    (e : Refusal)
     → IsMissedOrDry reused e → HasCause means reused last asked old new e
 cause_missed means reused last asked old new e (inl dry) = record {
   full = λ r is. absurd (cc (sym dry ∙ is));
@@ -52,7 +54,8 @@ cause_missed means reused last asked old new e (inr (inr busy)) = record {
 
 -- the cause stands for the whole of a call that was begun anew
 pub cause_anew : (means : Meanings) (reused : Type 0) (last : ℕ) (asked : Option Change) (old mid new : Seated)
-    (e : Refusal) → IsPrefix old.mark.log mid.mark.log → mid.table ≡ old.table → (reused → old.view.epoch_loads ≤ mid.view.epoch_loads)
+    (e : Refusal) → IsPrefix old.mark.log mid.mark.log → mid.table ≡ old.table →
+    (reused → old.view.epoch_loads ≤ mid.view.epoch_loads)
     → HasCause means reused last asked mid new e → HasCause means reused last asked old new e
 cause_anew means reused last None old mid new e pre table before h = record {
   full = h.full;

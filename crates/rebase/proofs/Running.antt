@@ -76,13 +76,15 @@ pub change_told : (means : Meanings) (tries : ℕ) (old new : Known) (last : ℕ
     → IsLinearized means tries old new (reply_made last c made) (change_replied c) (λ s. change_reply means s last c)
 change_told means tries old new last (Mutated x) made is =
     let r : Result ℕ Refusal = map_ok (λ (at : Option Ref). last + 1) made in
-    answers_told id means tries old new r (change_made x) (λ s. mutate_reply means s last x) (change_replied (Mutated x))
+    answers_told id means tries old new r (change_made x) (λ s. mutate_reply means s last x)
+    (change_replied (Mutated x))
     (λ s. change_reply means s last (Mutated x)) (ap (change_made x) (id_shown r)) (λ s. refl)
     (next_told means tries old new last x made is)
 change_told means tries old new last (Pulled t p) made is =
     let r : Result Ended Refusal = map_ok ended_as made in
     answers_told ended means tries old new r (change_applied t p) (λ s. end_reply s t.text (response.Ok p))
-    (change_replied (Pulled t p)) (λ s. change_reply means s last (Pulled t p)) (ap (change_applied t p) (ended_shown r))
+    (change_replied (Pulled t p)) (λ s. change_reply means s last (Pulled t p))
+    (ap (change_applied t p) (ended_shown r))
     (λ s. refl) (pull_told means tries old new last t p made is)
 change_told means tries old new last Closed made is =
     let r : Result Ended Refusal = closing_ended made in
@@ -153,7 +155,8 @@ ends_call means reused tries before new c cs made reply is found last acts e =
 
 -- mutations behind mutations
 more_more : (s : State) (xs ys : List Mutation) → with_more (with_more s xs) ys ≡ with_more s (xs ++ ys)
-more_more s xs ys = ap (λ (w : List Mutation). state s.pulled s.cookie s.confirmed w s.closed) (append_assoc s.pending xs ys)
+more_more s xs ys = ap (λ (w : List Mutation). state s.pulled s.cookie s.confirmed w s.closed)
+    (append_assoc s.pending xs ys)
 
 judged_at : (means : Meanings) (cs : Contents) (s : State) (last : ℕ) (c : Change) (run : AskedRun) (u : UnderWay)
     → u.mutation ≡ run.mutation → u.behind ≡ reverse run.behind.items → u.start ≡ run_start cs run
@@ -179,7 +182,8 @@ asks_for means cs s last c run u one others start is = record {
 }
 
 -- where a run is asked for, or the call ended, the seat has no taken slot
-pub progress_none : (has : Bytes → Bool) (means : Meanings) (reused : Type 0) (group : GroupId) (new : Seated) (tries last : ℕ) (c : Change)
+pub progress_none : (has : Bytes → Bool) (means : Meanings) (reused : Type 0) (group : GroupId) (new : Seated)
+    (tries last : ℕ) (c : Change)
     {M : Type 0} (p : Progress M) → IsProgress has means reused group new tries last c p → reused → new.view.taken ≡ []
 progress_none has means reused group new tries last c (progress.Run a) is r = is.0.none r
 progress_none has means reused group new tries last c (progress.Ended made) is r = (is.0 r).1
@@ -187,12 +191,14 @@ progress_none has means reused group new tries last c (progress.Ended made) is r
 -- CALLS THAT ARE REFUSED BEFORE THEY DID ANYTHING
 
 -- for want of memory
-pub refused_call : (means : Meanings) (reused : Type 0) (tries : ℕ) (before new : ClientState) (c : Change) (e : Refusal)
+pub refused_call : (means : Meanings) (reused : Type 0) (tries : ℕ) (before new : ClientState) (c : Change)
+    (e : Refusal)
     → change_replied c (Err e) ≡ None → last_called before.last c (Err e) ≡ before.last → e ≡ refusal.NoMemory
     → Stays reused before new → new.seat.mark ≡ before.seat.mark
     → EndsCall means reused tries before new c (Err e)
 refused_call means reused tries before new c e none same dry stays mark = record {
-  answer = wanting means tries before.seat.mark new.seat.mark e (change_replied c) (λ s. change_reply means s before.last c)
+  answer = wanting means tries before.seat.mark new.seat.mark e (change_replied c)
+      (λ s. change_reply means s before.last c)
       none (ap is_resource_refusal dry) (ap own_moves mark, λ moved. absurd (cc (sym dry ∙ moved)));
   last = stays.1 ∙ sym same;
   acts = record { client = stays.0.client; seat = stays.0.looked.seat; rests = stays.0.rests };
@@ -202,7 +208,8 @@ refused_call means reused tries before new c e none same dry stays mark = record
 }
 
 -- bytes that are no response
-pub unread_call : (means : Meanings) (reused : Type 0) (tries : ℕ) (before new : ClientState) (k : Cookie) (body : Bytes)
+pub unread_call : (means : Meanings) (reused : Type 0) (tries : ℕ) (before new : ClientState) (k : Cookie)
+    (body : Bytes)
     (e : Refusal) → IsOpened means before.seat.mark.log → Refuses e (answer_to body)
     → Stays reused before new → new.seat.mark ≡ before.seat.mark
     → EndsPull means reused tries before new k body (Err e)
@@ -225,7 +232,8 @@ unread_call means reused tries before new k body e legal read stays mark =
 
 -- ENDS OF PULLS
 
-pub closed_ends : (means : Meanings) (reused : Type 0) (tries : ℕ) (before new : ClientState) (k : Cookie) (body : Bytes)
+pub closed_ends : (means : Meanings) (reused : Type 0) (tries : ℕ) (before new : ClientState) (k : Cookie)
+    (body : Bytes)
     (reply : Result Replied Refusal) → answer_to body ≡ Ok response.StateNotFound
     → EndsCall means reused tries before new Closed reply → EndsPull means reused tries before new k body reply
 closed_ends means reused tries before new k body reply read e = record {
@@ -283,13 +291,15 @@ unsupported_ends means reused tries before new k body kind r reply read is told 
 -- THE STEPS OF A CALL
 
 -- a run is asked for
-pub go_run : (has : Bytes → Bool) (means : Meanings) (reused : Type 0) (tries : ℕ) (before client : ClientState) (c : Change) {M : Type 0}
+pub go_run : (has : Bytes → Bool) (means : Meanings) (reused : Type 0) (tries : ℕ) (before client : ClientState)
+    (c : Change) {M : Type 0}
     (p : Progress M) (a : Attempt M) → p ≡ progress.Run a → IsSameClient before client → client.last ≡ before.last
     → IsProgress has means reused client.group.group client.seat tries client.last c p
     → TellsProgress means reused tries before.seat client.seat before.last c p
     → IsAsked means reused tries before c (under_way client c a tries)
 go_run has means reused tries before client c {M} p a is same last stands tells =
-    let s = subst (λ (w : Progress M). IsProgress has means reused client.group.group client.seat tries client.last c w) is
+    let s = subst (λ (w : Progress M). IsProgress has means reused client.group.group client.seat tries client.last c w)
+    is
     stands in
     record {
       began = record {
@@ -299,7 +309,8 @@ go_run has means reused tries before client c {M} p a is same last stands tells 
             tells;
       };
       same = refl;
-      run = subst (λ (n : ℕ). AsksFor means (after (record_of a.arrival.seen.log)) n c (under_way client c a tries)) last
+      run = subst (λ (n : ℕ). AsksFor means (after (record_of a.arrival.seen.log)) n c (under_way client c a tries))
+          last
           (asks_for means (drawn client.seat.mark.log) (after (record_of a.arrival.seen.log)) client.last c a.run
           (under_way client c a tries) refl refl refl s.0.run);
       tried = refl;
@@ -307,15 +318,19 @@ go_run has means reused tries before client c {M} p a is same last stands tells 
     }
 
 -- and nothing is written yet
-pub go_fresh : (has : Bytes → Bool) (means : Meanings) (reused : Type 0) (tries : ℕ) (client : ClientState) (c : Change) {M : Type 0}
+pub go_fresh : (has : Bytes → Bool) (means : Meanings) (reused : Type 0) (tries : ℕ) (client : ClientState)
+    (c : Change) {M : Type 0}
     (p : Progress M) (a : Attempt M) → p ≡ progress.Run a
-    → IsProgress has means reused client.group.group client.seat tries client.last c p → IsUnwritten has (under_way client c a tries)
+    → IsProgress has means reused client.group.group client.seat tries client.last c p → IsUnwritten has
+    (under_way client c a tries)
 go_fresh has means reused tries client c {M} p a is stands =
-    let s = subst (λ (w : Progress M). IsProgress has means reused client.group.group client.seat tries client.last c w) is
+    let s = subst (λ (w : Progress M). IsProgress has means reused client.group.group client.seat tries client.last c w)
+    is
     stands in s.2
 
 -- the call ends
-pub go_end : (has : Bytes → Bool) (means : Meanings) (reused : Type 0) (tries : ℕ) (before client new : ClientState) (c : Change) {M : Type 0}
+pub go_end : (has : Bytes → Bool) (means : Meanings) (reused : Type 0) (tries : ℕ) (before client new : ClientState)
+    (c : Change) {M : Type 0}
     (p : Progress M) (made : Result (Option Ref) Refusal) (reply : Result Replied Refusal) → p ≡ progress.Ended made
     → IsSameClient before client → client.last ≡ before.last → IsSameSeat before.seat client.seat
     → IsProgress has means reused client.group.group client.seat tries client.last c p
@@ -323,8 +338,10 @@ pub go_end : (has : Bytes → Bool) (means : Meanings) (reused : Type 0) (tries 
     → reply ≡ reply_made client.last c made
     → new.last ≡ last_called client.last c reply → new.seat ≡ client.seat → IsSameClient client new
     → EndsCall means reused tries before new c reply
-go_end has means reused tries before client new c {M} p made reply is same last seat stands tells told called here kept =
-    let s = subst (λ (w : Progress M). IsProgress has means reused client.group.group client.seat tries client.last c w) is
+go_end has means reused tries before client new c {M} p made reply is same last seat stands tells told called here kept
+    =
+    let s = subst (λ (w : Progress M). IsProgress has means reused client.group.group client.seat tries client.last c w)
+    is
     stands in
     let t = subst (λ (w : Progress M). TellsProgress means reused tries before.seat client.seat before.last c w) is
     tells in
@@ -362,14 +379,16 @@ given_up means reused before u new b stays mark = (
           (stays.0.looked.seat.later.seat ∙ b.since.same.later.seat),
     ),
     after_tries before.seat u.client.seat new.seat (Some u.change) u.lost 0 None b.since.same stays.0.looked.seat
-        (b.since.gave r) (gives_calm (MayTake u.client.seat.table.sizes (Some u.change) u.client.seat.mark new.seat.mark)
+        (b.since.gave r) (gives_calm (MayTake u.client.seat.table.sizes
+        (Some u.change) u.client.seat.mark new.seat.mark)
         u.client.seat new.seat stays.0.looked.own (stays.0.looked.calm r)),
   ),
 )
 
 -- what is told where a call is refused before it did anything
 pub refused_told : (means : Meanings) (reused : Type 0) (tries : ℕ) (before : ClientState) (c : Change) (e : Refusal)
-    {M S T : Type 0} (a : Asked M S T) → change_replied c (Err e) ≡ None → last_called before.last c (Err e) ≡ before.last
+    {M S T : Type 0} (a : Asked M S T) → change_replied c (Err e) ≡ None → last_called before.last c (Err e)
+    ≡ before.last
     → e ≡ refusal.NoMemory
     → Tells a (λ u. ⊥) (λ client reply. (reply ≡ Err e) × Stays reused before client
     × (client.seat.mark ≡ before.seat.mark))
@@ -414,7 +433,8 @@ closed_told_as means reused tries before k body P (asked.Ended client reply) rea
     closed_ends means reused tries before client k body (map_ok reply_seen reply) read h
 
 -- or a version
-pub unsupported_told : (means : Meanings) (reused : Type 0) (tries : ℕ) (before : ClientState) (k : Cookie) (body : Bytes)
+pub unsupported_told : (means : Meanings) (reused : Type 0) (tries : ℕ) (before : ClientState) (k : Cookie)
+    (body : Bytes)
     (P : UnderWay → Type 0) {M S T : Type 0} (a : Asked M S T)
     → Tells a (λ u. ⊥) (λ client reply. EndsPull means reused tries before client k body (map_ok reply_seen reply))
     → Tells a P (λ client reply. EndsPull means reused tries before client k body (map_ok reply_seen reply))
@@ -424,19 +444,22 @@ unsupported_told means reused tries before k body P (asked.Ended client reply) h
 -- WHAT IS ASKED FOR
 
 -- nothing more is told
-pub tells_none : {M S T : Type 0} (a : Asked M S T) (P : UnderWay → Type 0) (E : ClientState → Result Reply Refusal → Type 0)
+pub tells_none : {M S T : Type 0} (a : Asked M S T) (P : UnderWay → Type 0)
+    (E : ClientState → Result Reply Refusal → Type 0)
     → Tells a (λ u. ⊥) E → Tells a P (λ client reply. Unit {0})
 tells_none (asked.Run u) P E h = absurd h
 tells_none (asked.Ended client reply) P E h = tt
 
-first_at : (has : Bytes → Bool) (s : State) (c : Change) (cs : Contents) {M : Type 0} (client : ClientState) (a : Attempt M) (tries : ℕ)
+first_at : (has : Bytes → Bool) (s : State) (c : Change) (cs : Contents) {M : Type 0} (client : ClientState)
+    (a : Attempt M) (tries : ℕ)
     → IsFirstRun has s c a.run → IsFirstAt has s c (under_way client c a tries)
 first_at has s (Mutated x) cs client a tries h = tt
 first_at has s (Pulled t r) cs client a tries h = h
 first_at has s Closed cs client a tries h = tt
 
 -- the first run of a call
-pub first_shown : (has : Bytes → Bool) (client : ClientState) (c : Change) (tries n : ℕ) {M : Type 0} (p : Progress M) {X S T : Type 0}
+pub first_shown : (has : Bytes → Bool) (client : ClientState) (c : Change) (tries n : ℕ) {M : Type 0}
+    (p : Progress M) {X S T : Type 0}
     (asking : Asked X S T) → Tells asking (IsShown client c tries p) (λ client reply. Unit {0}) → StartsAnew has n c p
     → Tells asking (IsFirst has) (λ client reply. Unit {0})
 first_shown has client c tries n (progress.Run a) (asked.Run u) h start =
@@ -447,7 +470,8 @@ first_shown has client c tries n (progress.Run a) (asked.Ended d reply) h start 
 first_shown has client c tries n (progress.Ended made) (asked.Ended d reply) h start = tt
 
 -- the run behind another
-pub next_run : (has : Bytes → Bool) (means : Meanings) (old client : ClientState) (c : Change) (tries : ℕ) {M : Type 0} (was a : Attempt M) (ran : Ran)
+pub next_run : (has : Bytes → Bool) (means : Meanings) (old client : ClientState) (c : Change) (tries : ℕ) {M : Type 0}
+    (was a : Attempt M) (ran : Ran)
     → FollowsRun has means old.seat client.seat was ran c (progress.Run a)
     → Follows has means (under_way old c was tries) ran (under_way client c a tries)
 next_run has means old client c tries was a ran (inl f) =
@@ -463,13 +487,15 @@ next_run has means old client c tries was a ran (inl f) =
 next_run has means old client c tries was a ran (inr g) =
     inr (omega (arith, g.0), first_at has (after (record_of a.arrival.seen.log)) c [] client a tries g.1)
 
-pub next_shown : (has : Bytes → Bool) (means : Meanings) (old client : ClientState) (c : Change) (tries : ℕ) {M : Type 0} (was : Attempt M) (ran : Ran)
+pub next_shown : (has : Bytes → Bool) (means : Meanings) (old client : ClientState) (c : Change)
+    (tries : ℕ) {M : Type 0} (was : Attempt M) (ran : Ran)
     (p : Progress M) {X S T : Type 0} (asking : Asked X S T)
     → Tells asking (IsShown client c tries p) (λ client reply. Unit {0})
     → FollowsRun has means old.seat client.seat was ran c p
     → Tells asking (Follows has means (under_way old c was tries) ran) (λ client reply. Unit {0})
 next_shown has means old client c tries was ran (progress.Run a) (asked.Run u) h f =
-    subst (λ (w : UnderWay). Follows has means (under_way old c was tries) ran w) (sym h) (next_run has means old client c tries was a ran f)
+    subst (λ (w : UnderWay). Follows has means (under_way old c was tries) ran w) (sym h)
+    (next_run has means old client c tries was a ran f)
 next_shown has means old client c tries was ran (progress.Ended made) (asked.Run u) h f = absurd h
 next_shown has means old client c tries was ran (progress.Run a) (asked.Ended d reply) h f = tt
 next_shown has means old client c tries was ran (progress.Ended made) (asked.Ended d reply) h f = tt

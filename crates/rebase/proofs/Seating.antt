@@ -44,7 +44,8 @@ handed_on {A} {B} {V} f g all from rest last x done more y is one grown same wer
     let split : from ≡ rest ++ x ∷ [] = subst (λ (o : Option A). from ≡ rest ++ option_to_list o) one is in
     let front : map f from ≡ map f rest ++ f x ∷ [] = ap (map f) split ∙ map-append f rest (x ∷ []) in
     let back : reverse (map g more) ≡ f x ∷ reverse (map g done) =
-    ap (λ w. reverse (map g w)) grown ∙ (ap reverse (map-append g done (y ∷ [])) ∙ (reverse-append (map g done) (g y ∷ [])
+    ap (λ w. reverse (map g w)) grown ∙ (ap reverse (map-append g done (y ∷ [])) ∙
+    (reverse-append (map g done) (g y ∷ [])
     ∙ ap (λ v. v ∷ reverse (map g done)) same)) in
     were ∙ (ap (λ w. w ++ reverse (map g done)) front ∙ (append_assoc (map f rest) (f x ∷ []) (reverse (map g done))
     ∙ ap (λ w. map f rest ++ w) (sym back)))

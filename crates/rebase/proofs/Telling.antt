@@ -171,8 +171,10 @@ closed_before false e h = absurd (cc h)
 -- a closing is told as the refusal that it stands for
 pub closing_told : (means : Meanings) (tries : ℕ) (old new : Known) (last : ℕ) (ticket : Bytes)
     (made : Result (Option Ref) Refusal)
-    → IsLinearized means tries old new (map_ok is_made made) (change_asked Closed) (λ s. asked_reply means s last Closed)
-    → IsLinearized means tries old new (closing_ended made) change_closing (λ s. end_reply s ticket response.StateNotFound)
+    → IsLinearized means tries old new (map_ok is_made made) (change_asked Closed)
+    (λ s. asked_reply means s last Closed)
+    → IsLinearized means tries old new (closing_ended made) change_closing
+    (λ s. end_reply s ticket response.StateNotFound)
 closing_told means tries old new last ticket (Ok (Some at)) is =
     (is.0, is.1, closed_told (after (record_of is.0)).closed is.2)
 closing_told means tries old new last ticket (Ok None) is = absurd (never_kept (after (record_of is.0)).closed is.2)
@@ -200,7 +202,8 @@ applied_same t r (Ok None) = refl
 applied_same t r (Err e) = refl
 
 pub closing_same : (means : Meanings) (tries : ℕ) (old new : Known) (last : ℕ) (made : Result (Option Ref) Refusal)
-    → IsLinearized means tries old new (map_ok is_made made) (change_asked Closed) (λ s. asked_reply means s last Closed)
+    → IsLinearized means tries old new (map_ok is_made made) (change_asked Closed)
+    (λ s. asked_reply means s last Closed)
     → change_asked Closed (map_ok is_made made) ≡ change_closing (closing_ended made)
 closing_same means tries old new last (Ok (Some at)) is = refl
 closing_same means tries old new last (Ok None) is = absurd (never_kept (after (record_of is.0)).closed is.2)

@@ -72,7 +72,8 @@ AreOwn has xs = All (λ (x : Mutation). has x.name ≡ true) xs
 
 -- The next run of the same try, where the one before ended so: of the next mutation behind it that the group doesn't run
 -- itself, from the map that the one before and the group's runs left.
-pub record IsNextRun (has : Bytes → Bool) (means : Meanings) (was : UnderWay) (ran : Ran) (now : UnderWay) : Type 0 where
+pub record IsNextRun (has : Bytes → Bool) (means : Meanings) (was : UnderWay) (ran : Ran)
+    (now : UnderWay) : Type 0 where
   pub lost : now.lost ≡ was.lost
   pub seen : now.seen ≡ was.seen
   pub own : List Mutation

@@ -52,7 +52,7 @@ pub use head_word::Mark;
 pub use push_body::Identity;
 pub use reader_claims::SlotCounts;
 pub use reading::ReadTx;
-pub use replays::Runs;
+pub use replays::{Has, Runs};
 pub use seats::{Seat, Seats};
 pub use tickets::Ticket;
 pub use transactions::TakesRows;

@@ -5,7 +5,7 @@
 //! `add_replayed`). All of it only reads what is placed, and writes what is new into a `Draft` behind it: so a refused one
 //! has changed no group. How a pull ends is `pull_outcome`.
 //!
-//! A group runs the mutators that it has (`Runs`), and asks its caller for the runs of others. The caller reads and writes
+//! A group runs the mutators that it has (`Has`, `Runs`), and asks its caller for the runs of others. The caller reads and writes
 //! the map of such a run (`RunMap`), and says how it ended.
 //!
 //! A rebase runs what stays pending on one tree, and its last commit alone has that map. Queries read at heads, and no
@@ -39,7 +39,7 @@ mod undoing;
 pub use asked::{Key, RunMap};
 pub use locals::{add_replayed, run_pending, tree_if_done};
 pub use looks::{Look, base_at, look_at, pending_at};
-pub use mutators::Runs;
+pub use mutators::{Has, Runs};
 pub use pulls::{add_patched, after_changes, pull_outcome};
 pub use runs::{Left, OwnRun, Replayed, Run, Setting, replay_on, run_on};
 pub use tips::{Tip, add_closing, add_local, add_opening};

@@ -7,11 +7,14 @@ ghost use Rattle.group_history.specs.Stops.{MayStop};
 use group_history::{Json, Means, Mutators, Ran, Reason, Stop, WriteView};
 use std::alloc::Global;
 
-/// The mutators that a group runs itself. For a run of another one a change asks its caller.
-pub trait Runs: Means + Sync {
+/// Which mutators a group runs itself. For a run of another one a change asks its caller.
+pub trait Has: Means {
     /// Whether it has a mutator of this name.
     ghost has: { Bytes → Bool };
+}
 
+/// The mutators that a group runs itself.
+pub trait Runs: Has + Sync {
     /// Runs the mutator of this name, as `Mutators::run` does. None where it has none: then the view is as it was.
     fn run_if_any<V: WriteView>(
         &self,
@@ -21,7 +24,7 @@ pub trait Runs: Means + Sync {
         why: Reason,
         view: &mut V,
     ) -> Result<Option<Ran>, Stop>
-        ensures had { IfOk result (λ found. is_some found ≡ has name.now) }
+        ensures had { IfOk result (λ found. is_some found ≡ Self.has name.now) }
         ensures ran { IfOk result (λ found. IfSome found (λ ran. RunsAs (Self.means name.now args.now why
             (V.contents view.old)) ran (V.contents view.new))) }
         ensures left { IfOk result (λ found. IfNone found (V.contents view.new ≡ V.contents view.old)) }
@@ -29,9 +32,11 @@ pub trait Runs: Means + Sync {
 }
 
 /// A group that has all mutators asks for no run.
-impl<M: Mutators> Runs for M {
+impl<M: Mutators> Has for M {
     ghost has = { λ name. true };
+}
 
+impl<M: Mutators> Runs for M {
     fn run_if_any<V: WriteView>(
         &self,
         alloc: Global,

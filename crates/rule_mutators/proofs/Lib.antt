@@ -1,6 +1,6 @@
 mod Answering
 mod Escapes
 mod Parts
-mod PickedRules
+pub mod PickedRules
 mod Turns
 pub mod Sharing

@@ -15,7 +15,7 @@ use Rattle.rule_mutators.specs.Meaning.{rules_mean}
 use Rattle.rule_mutators.specs.Rules.{Rules}
 
 -- an answer suits a meaning in one way at most
-RunsAs-prop : (x : Meaning) (r : Ran) (left : Entries) → IsProp (RunsAs x r left)
+pub RunsAs-prop : (x : Meaning) (r : Ran) (left : Entries) → IsProp (RunsAs x r left)
 RunsAs-prop unknown ran.Unknown left = Unit-prop
 RunsAs-prop unknown ran.Done left = λ p q. absurd p
 RunsAs-prop unknown (ran.Refused c) left = λ p q. absurd p

@@ -50,7 +50,7 @@ step_sync =
 step_row : IsSync Step.the_row
 step_row = search (step_sync, sendable) depth 60 fits 20000
 
-rules_sync : IsSync (Rules.the_field).row
+pub rules_sync : IsSync (Rules.the_field).row
 rules_sync = search (text_sync, step_row, crosses, sendable) depth 60 fits 20000
 
 pub mutators_sync : (B : RattleType) (picked : Picked.Ghosts B.Denot)

@@ -1,6 +1,6 @@
 -- What rules mean. These are this project's own rules.
 use Rattle.std.specs.Prelude.{ℕ, ℤ, pos, neg_ℤ, ◌^◌, ◌+ℤ◌, ◌-ℤ◌, int_le, int_lt, ◌&&◌, not, [], ◌∷◌, ◌++◌}
-use Rattle.std.specs.Prelude.{Bool, if◌then◌else◌, Option, Some, None, option_map, option_and_then, unwrap_or}
+use Rattle.std.specs.Prelude.{◌≡◌, Bool, if◌then◌else◌, Option, Some, None, option_map, option_and_then, unwrap_or}
 use Rattle.std.specs.Prelude.{Result, Ok, Err}
 use Rattle.std.specs.Fmt.{signed_decimal}
 use Rattle.std.specs.FinMap as finite
@@ -8,10 +8,12 @@ use Rattle.serde_json.specs.Data as tree
 use Rattle.serde_json.specs.Data.{Data, null, boolean, number, string, array, object, Members, no_members}
 use Rattle.serde_json.specs.Find as find
 use Rattle.serde_json.specs.Find.{as_bool, as_object, as_i64, of_integer}
+use Rattle.group_history.specs.declared.mutators.Ran.{Ran}
 use Rattle.group_history.specs.declared.refusals.Refusal.{Refusal}
 use Rattle.group_history.specs.Map.{Bytes, Entries, same_text}
 use Rattle.group_history.specs.Meaning.{Meaning, Meanings, unknown, refuses, done, needs, value_of}
 use Rattle.group_history.specs.Json.{text_of}
+use Rattle.group_history.specs.Ran.{RunsAs}
 use Rattle.script_mutators.specs.Mutators.{number_of, script_means}
 use Rattle.rule_mutators.specs.declared.language.Which.{Which}
 use Rattle.rule_mutators.specs.declared.language.Which.TheVariants as which
@@ -176,10 +178,21 @@ abbrev pub steps_named : Bytes → Rules → Option Steps
 steps_named name [] = None
 steps_named name (r ∷ rules) = if same_text name r.0 then Some r.1 else steps_named name rules
 
+-- what a rule means at arguments that are a JSON text
+abbrev pub rule_means : Steps → Bytes → Entries → Meaning
+rule_means steps args m = needs wrong (value_of args) (λ d. steps_mean steps d m)
+
+-- The rule is run and ended so, from one map to another; or there is none, and the map stays.
+abbrev pub RunsIfAny : Option Steps → Bytes → Entries → Option Ran → Entries → Type 0
+RunsIfAny None args old None new = new ≡ old
+RunsIfAny None args old (Some ran) new = ⊥
+RunsIfAny (Some steps) args old None new = ⊥
+RunsIfAny (Some steps) args old (Some ran) new = RunsAs (rule_means steps args old) ran new
+
 -- what a name means: the rule of that name, where there is one, else what it means in scripts
 abbrev pub meaning_by : Option Steps → Meanings
 meaning_by None name args why m = script_means name args why m
-meaning_by (Some steps) name args why m = needs wrong (value_of args) (λ d. steps_mean steps d m)
+meaning_by (Some steps) name args why m = rule_means steps args m
 
 unfoldable pub rules_mean : Rules → Meanings
 rules_mean rules name args why m = meaning_by (steps_named name rules) name args why m

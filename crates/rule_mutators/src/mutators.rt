@@ -5,7 +5,7 @@
 ghost use Rattle.std.specs.Prelude.{◌≡◌, [], IfOk, IfErr};
 ghost use Rattle.group_history.specs.Ran.{RunsAs};
 ghost use Rattle.group_history.specs.Stops.{MayStop};
-ghost use Rattle.rule_mutators.specs.Meaning.{rules_mean};
+ghost use Rattle.rule_mutators.specs.Meaning.{RunsIfAny, rules_mean, steps_named};
 ghost use Rattle.rule_mutators.specs.Rules as rule;
 ghost use Rattle.rule_mutators.specs.Views.{rules_of};
 
@@ -52,7 +52,29 @@ impl<B: Picked> Means for RuleMutators<B> {
 }
 
 impl Rules {
-    /// Runs the rule of this name; without one, the mutator of scripts.
+    /// Runs the rule of this name. None where there is none: then the view is as it was.
+    pub fn run_if_any<V: WriteView>(
+        &self,
+        alloc: Global,
+        name: &str,
+        args: &Json,
+        view: &mut V,
+    ) -> Result<Option<Ran>, Stop>
+        ensures ran { IfOk result (λ found. RunsIfAny (steps_named name.now (rules_of self.now)) args.now
+            (V.contents view.old) found (V.contents view.new)) }
+        ensures stopped { IfErr result (MayStop V.stops) }
+    {
+        let Some(steps) = self.steps_of(name) else {
+            return Ok(None);
+        };
+        let args = args.value(alloc)?;
+        let call = Call { alloc, args: &args };
+        let ran = run_steps(call, view, steps);
+        drop(args);
+        Ok(Some(ran?))
+    }
+
+    // Runs the rule of this name; without one, the mutator of scripts.
     #[tactic(auto, unfolding(crate::specs::Meaning::rules_mean))]
     fn run<V: WriteView>(
         &self,
@@ -66,14 +88,10 @@ impl Rules {
             (rules_mean (rules_of self.now) name.now args.now why (V.contents view.old)) ran (V.contents view.new)) }
         ensures stopped { IfErr result (MayStop V.stops) }
     {
-        let Some(steps) = self.steps_of(name) else {
-            return ScriptMutators.run(alloc, name, args, why, view);
-        };
-        let args = args.value(alloc)?;
-        let call = Call { alloc, args: &args };
-        let ran = run_steps(call, view, steps);
-        drop(args);
-        ran
+        match self.run_if_any(alloc, name, args, view)? {
+            Some(ran) => Ok(ran),
+            None => ScriptMutators.run(alloc, name, args, why, view),
+        }
     }
 }
 

@@ -2,7 +2,7 @@
 //!
 //! `read_script` cuts a script into lines and makes values of them (a `Header`, and phases of `Command`s); where it is
 //! faulty, the first faulty line is told. `LineReader` does the same for a line by itself. What a script says, and
-//! which fault is the first, is in `specs/`; `docs/SCRIPT.md` says it in words, with each fault's usual cause.
+//! which fault is the first, is in `specs/`; `docs/SCRIPT.md` says it in words, with usual causes.
 #![tactic(auto)]
 
 mod faults;

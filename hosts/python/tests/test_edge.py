@@ -368,10 +368,20 @@ class OwnMutators(unittest.TestCase):
         own = {"before": put_before, "after": put_after, "done": put_n}
         fill_by_replays(self, lambda: Group(ID, profile="p1", schema="s1", mutators=own, slots=64, places=1))
 
-    def test_opening(self) -> None:
-        with self.assertRaises(Refusal) as told:
-            Group(ID, profile="p1", schema="s1", rules=RULES, mutators={})
-        self.assertEqual((told.exception.why, told.exception.fault), (Why.BAD_RULES, ""))
+    def test_beside_rules(self) -> None:
+        rules: dict[str, Json] = {"add": [["put", "r", ["add", ["or", ["get", "r"], 0], 1]]]}
+        own = {"note": note, "take": take}
+        anna, bert = Group(ID, profile="p1", schema="s1", rules=rules, mutators=own, places=2).places
+        anna.sit(ANNA)
+        bert.sit(BERT)
+        self.assertEqual((anna.mutate("add", None), anna.mutate("note", 7), bert.mutate("add", None)), (1, 2, 1))
+        self.refused(Why.NO_MUTATOR, anna.mutate, "set", ["a", 1])
+        self.assertIs(pull(anna, response(1, put("r", 10))), Ended.APPLIED)
+        self.assertEqual(bert.scan(), [("n", [7]), ("r", 12), ("rebased", True)])
+        self.assertEqual(anna.mutate("take", "n"), 3)
+        self.refused(Why.BAD_RULES, Group, ID, profile="p1", schema="s1", rules={"a": 1}, mutators=own)
+        with self.assertRaisesRegex(ValueError, "one name: take"):
+            Group(ID, profile="p1", schema="s1", rules={"take": []}, mutators=own)
 
 
 class Threads(unittest.TestCase):

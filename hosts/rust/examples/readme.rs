@@ -34,6 +34,7 @@ fn main() -> Result<(), Refusal> {
         profile: "p1",
         schema: "s1",
         rules: r#"{"add":[["put",["cat","todo/",["arg","id"]],["arg","text"]]]}"#,
+        own_mutators: false,
         slots: 4096,
     };
     let [mut anna, mut bert] = group.open()?;

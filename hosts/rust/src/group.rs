@@ -14,13 +14,16 @@ pub struct Group<'a> {
     pub profile: &'a str,
     /// The schema version of its requests.
     pub schema: &'a str,
-    /// Its mutators as a JSON object (`docs/RULES.md`); empty: the mutators of scripts alone.
+    /// Mutators as a JSON object (`docs/RULES.md`), which the group runs itself; empty: none.
     pub rules: &'a str,
+    /// Whether a name that has no rule is a mutator of the program's own: changes of such are made by
+    /// [`Place::mutate_with`] and [`Place::end_pull_with`]. Else it is a mutator of scripts.
+    pub own_mutators: bool,
     /// 16 to 16,777,216, of some 80 bytes each. A group never grows: `docs/USING.md` says how many to ask for.
     pub slots: u32,
 }
 
-impl<'a> Group<'a> {
+impl Group<'_> {
     /// Opens the group with `N` places, 1 to 256. Refused with `BadVersion`, `BadUuid`, `BadRules`, `OutOfRange` (slots
     /// or places) and `NoMemory`.
     pub fn open<const N: usize>(&self) -> Result<[Place; N], OpenError> {
@@ -29,21 +32,11 @@ impl<'a> Group<'a> {
 
     /// Opens the group with so many places. Refused as [`Group::open`].
     pub fn open_places(&self, count: usize) -> Result<Vec<Place>, OpenError> {
-        self.places(false, count)
-    }
-
-    /// The group with mutators of the program's own, and no others: its changes are made by [`Place::mutate_with`] and
-    /// [`Place::end_pull_with`]. It has no rules.
-    pub fn own_mutators(self) -> OwnGroup<'a> {
-        OwnGroup { group: self }
-    }
-
-    fn places(&self, own: bool, count: usize) -> Result<Vec<Place>, OpenError> {
         if !version().is_called() {
             return Err(OpenError { refusal: Refusal::BadVersion, fault: String::new() });
         }
         let texts = [self.id, self.profile, self.schema, self.rules];
-        match Handle::open(texts, self.slots, own, count) {
+        match Handle::open(texts, self.slots, self.own_mutators, count) {
             Ok(handles) => Ok(handles.into_iter().map(Place::new).collect()),
             Err(returned) => Err(self.refused(Refusal::of(returned, 0))),
         }
@@ -52,24 +45,6 @@ impl<'a> Group<'a> {
     fn refused(&self, refusal: Refusal) -> OpenError {
         let fault = if refusal == Refusal::BadRules { rules_fault(self.rules) } else { String::new() };
         OpenError { refusal, fault }
-    }
-}
-
-/// What a client group is opened with whose mutators are the program's own.
-#[derive(Clone, Copy, Debug)]
-pub struct OwnGroup<'a> {
-    group: Group<'a>,
-}
-
-impl OwnGroup<'_> {
-    /// Opens the group with `N` places, 1 to 256. Refused as [`Group::open`], and with `BadRules` where it has rules.
-    pub fn open<const N: usize>(&self) -> Result<[Place; N], OpenError> {
-        Ok(as_many(self.open_places(N)?))
-    }
-
-    /// Opens the group with so many places. Refused as [`OwnGroup::open`].
-    pub fn open_places(&self, count: usize) -> Result<Vec<Place>, OpenError> {
-        self.group.places(true, count)
     }
 }
 

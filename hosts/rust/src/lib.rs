@@ -13,6 +13,7 @@
 //!     profile: "p1",
 //!     schema: "s1",
 //!     rules: r#"{"add":[["put",["cat","todo/",["arg","id"]],["arg","text"]]]}"#,
+//!     own_mutators: false,
 //!     slots: 4096,
 //! };
 //! let [mut anna, mut bert] = group.open()?;
@@ -47,14 +48,21 @@
 //! }
 //! ```
 //!
-//! Mutators may be the program's own. A change calls them, and each rebase again:
+//! Mutators may be the program's own, beside rules too. A change calls them, and each rebase again:
 //!
 //! ```
 //! use giqaymu::{Group, Ran, Refusal};
 //!
 //! # fn main() -> Result<(), Refusal> {
-//! let group = Group { id: "00000000-0000-4000-8000-000000000001", profile: "p1", schema: "s1", rules: "", slots: 4096 };
-//! let [mut anna] = group.own_mutators().open()?;
+//! let group = Group {
+//!     id: "00000000-0000-4000-8000-000000000001",
+//!     profile: "p1",
+//!     schema: "s1",
+//!     rules: "",
+//!     own_mutators: true,
+//!     slots: 4096,
+//! };
+//! let [mut anna] = group.open()?;
 //! anna.sit("00000000-0000-4000-8000-00000000000a")?;
 //! let id = anna.mutate_with("rename", r#""milk""#, 1_700_000_000_000, |run, draft| {
 //!     draft.put("todo/x", &run.args)?;
@@ -76,7 +84,7 @@ mod scan;
 mod version;
 
 pub use edge::{STACK, version};
-pub use group::{Group, OwnGroup};
+pub use group::Group;
 pub use own::{Draft, Ran, Reason, Run};
 pub use place::{Ended, Place, Ticket, Watch};
 pub use refusal::{OpenError, Refusal, VersionKind};

@@ -183,10 +183,10 @@ impl Place {
         self.end_pull_with(ticket, response, |_, _| Err(Refusal::Asks))
     }
 
-    /// Ends a pull as [`Place::end_pull`] does, in a group whose mutators are the program's own: `run` is called for each
-    /// mutation that stays pending, the oldest first, and for all anew where others changed the group first. One whose
-    /// run isn't done stays pending, and changes nothing. Where `run` answers a refusal or panics, the change is given up:
-    /// nothing was changed.
+    /// Ends a pull as [`Place::end_pull`] does, in a group with mutators of the program's own: `run` is called for each
+    /// mutation of one that stays pending, the oldest first, and for all anew where others changed the group first. One
+    /// whose run isn't done stays pending, and changes nothing. Where `run` answers a refusal or panics, the change is
+    /// given up: nothing was changed.
     pub fn end_pull_with<F>(&mut self, ticket: Ticket, response: &[u8], run: F) -> Result<Ended, Refusal>
     where
         F: FnMut(&Run, &mut Draft<'_>) -> Result<Ran, Refusal>,
@@ -200,15 +200,15 @@ impl Place {
 
     /// Runs a mutator on the map, and answers the mutation's id; queries show it at once. `args` is a JSON text of
     /// whole numbers that nests at most 124 deep, `time` is in milliseconds since 1970. Refused with `NotJson`,
-    /// `NotWhole`, `NoMutator`, `Refused` with the mutator's code, `Stale`, `Full`, `Stamps` and `Closed`; with `Asks` in
-    /// a group whose mutators are the program's own.
+    /// `NotWhole`, `NoMutator`, `Refused` with the mutator's code, `Stale`, `Full`, `Stamps` and `Closed`; with `Asks`
+    /// where the mutator is one of the program's own.
     pub fn mutate(&mut self, name: &str, args: &str, time: u64) -> Result<u64, Refusal> {
         self.mutate_with(name, args, time, |_, _| Err(Refusal::Asks))
     }
 
-    /// Makes a mutation as [`Place::mutate`] does, in a group whose mutators are the program's own: `run` is the mutator,
-    /// and is called anew where others changed the group first. Where it answers a refusal or panics, the change is given
-    /// up: nothing was changed.
+    /// Makes a mutation as [`Place::mutate`] does, in a group with mutators of the program's own: `run` is the mutator
+    /// where the group has no rule of the name, and is called anew where others changed the group first. Where it
+    /// answers a refusal or panics, the change is given up: nothing was changed.
     pub fn mutate_with<F>(&mut self, name: &str, args: &str, time: u64, run: F) -> Result<u64, Refusal>
     where
         F: FnMut(&Run, &mut Draft<'_>) -> Result<Ran, Refusal>,

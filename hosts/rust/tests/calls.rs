@@ -5,8 +5,14 @@ use giqaymu::{Ended, Group, OpenError, Place, Refusal, Scan, Start, VersionKind}
 const ID: &str = "00000000-0000-4000-8000-000000000001";
 const ANNA: &str = "00000000-0000-4000-8000-00000000000a";
 const BERT: &str = "00000000-0000-4000-8000-00000000000b";
-const GROUP: Group<'_> =
-    Group { id: ID, profile: "p1", schema: "s1", rules: r#"{"need":[["need",["has",["arg",0]],77]]}"#, slots: 1024 };
+const GROUP: Group<'_> = Group {
+    id: ID,
+    profile: "p1",
+    schema: "s1",
+    rules: r#"{"need":[["need",["has",["arg",0]],77]]}"#,
+    own_mutators: false,
+    slots: 1024,
+};
 
 fn seated() -> [Place; 2] {
     let mut places = GROUP.open().expect("a group");
@@ -196,9 +202,8 @@ fn faulty_rules() {
     assert_eq!(told(rules).to_string(), "the rules are faulty: /add/0/2: unknown word");
     let name = "é/".repeat(300);
     assert_eq!(told(&format!(r#"{{"{name}":1}}"#)).fault, format!("/{}: no list of steps", name.replace('/', "~1")));
-    let beside = GROUP.own_mutators().open::<1>().expect_err("rules beside mutators of the program's own");
-    assert_eq!(beside, OpenError { refusal: Refusal::BadRules, fault: String::new() });
-    assert_eq!(beside.to_string(), "the rules are faulty");
+    let beside = Group { rules, own_mutators: true, ..GROUP }.open::<1>().expect_err("a fault");
+    assert_eq!(beside, told(rules));
 }
 
 #[test]

@@ -6,11 +6,21 @@ use std::thread;
 
 const ANNA: &str = "00000000-0000-4000-8000-00000000000a";
 const BERT: &str = "00000000-0000-4000-8000-00000000000b";
-const GROUP: Group<'_> =
-    Group { id: "00000000-0000-4000-8000-000000000001", profile: "p1", schema: "s1", rules: "", slots: 16_384 };
+const GROUP: Group<'_> = Group {
+    id: "00000000-0000-4000-8000-000000000001",
+    profile: "p1",
+    schema: "s1",
+    rules: "",
+    own_mutators: true,
+    slots: 16_384,
+};
 
 fn seated() -> [Place; 2] {
-    let mut places = GROUP.own_mutators().open().expect("a group");
+    seated_at(GROUP)
+}
+
+fn seated_at(group: Group<'_>) -> [Place; 2] {
+    let mut places = group.open().expect("a group");
     let [anna, bert] = &mut places;
     anna.sit(ANNA).expect("a client");
     bert.sit(BERT).expect("a client");
@@ -113,7 +123,7 @@ fn a_change_is_given_up() -> Result<(), Refusal> {
 
 #[test]
 fn no_mutation_is_lost() -> Result<(), Refusal> {
-    let places = GROUP.own_mutators().open_places(4)?;
+    let places = GROUP.open_places(4)?;
     let threads: Vec<_> = places
         .into_iter()
         .enumerate()
@@ -140,9 +150,30 @@ fn no_mutation_is_lost() -> Result<(), Refusal> {
     Ok(())
 }
 
+/// The group runs its rule itself, also in a pull, and asks for the names that have none, those of scripts too.
+#[test]
+fn rules_beside_own_mutators() -> Result<(), Refusal> {
+    let rules = r#"{"add":[["put","r",["add",["or",["get","r"],0],1]]]}"#;
+    let [mut anna, mut bert] = seated_at(Group { rules, ..GROUP });
+    assert_eq!(anna.mutate("add", "null", 5)?, 1);
+    assert_eq!(bert.mutate("set", r#"["s",1]"#, 5), Err(Refusal::Asks));
+    assert_eq!(bert.mutate_with("note", "7", 5, mutators)?, 1);
+    assert_eq!(anna.mutate("add", "null", 5)?, 2);
+    let (ticket, _) = anna.begin_pull()?;
+    let mut runs = Vec::new();
+    let response = br#"{"cookie":1,"lastMutationIDChanges":{},"patch":[{"op":"put","key":"r","value":10}]}"#;
+    let ended = anna.end_pull_with(ticket, response, |run, draft| {
+        runs.push((run.name.clone(), draft.get("r")?.map(text).map(str::to_owned)));
+        mutators(run, draft)
+    })?;
+    assert_eq!((ended, runs), (Ended::Applied, vec![("note".to_owned(), Some("11".to_owned()))]));
+    assert_eq!(text(bert.scan(&Scan::default())?), r#"[["note",[7,"rebased"]],["r",12]]"#);
+    Ok(())
+}
+
 #[test]
 fn opening() {
-    let refused = |group: Group<'_>| group.own_mutators().open_places(1).err().map(Refusal::from);
-    assert_eq!(refused(Group { rules: "{}", ..GROUP }), Some(Refusal::BadRules));
+    let refused = |group: Group<'_>| group.open_places(1).err().map(Refusal::from);
+    assert_eq!(refused(Group { rules: "{", ..GROUP }), Some(Refusal::BadRules));
     assert_eq!(refused(Group { slots: 15, ..GROUP }), Some(Refusal::OutOfRange));
 }

@@ -3,6 +3,7 @@
 use giqaymu::{Group, Place, Refusal, STACK};
 use std::thread;
 
+const ID: &str = "00000000-0000-4000-8000-000000000001";
 const THREADS: u32 = 4;
 const MUTATIONS: u64 = 2000;
 
@@ -16,8 +17,7 @@ fn increments(place: &mut Place) -> Result<(), Refusal> {
 /// Four threads mutate at once, each with a stack as small as a call needs, and no mutation is lost.
 #[test]
 fn no_mutation_is_lost() -> Result<(), Refusal> {
-    let group =
-        Group { id: "00000000-0000-4000-8000-000000000001", profile: "p1", schema: "s1", rules: "", slots: 65_536 };
+    let group = Group { id: ID, profile: "p1", schema: "s1", rules: "", own_mutators: false, slots: 65_536 };
     let mut places = group.open_places(THREADS as usize)?;
     for (number, place) in places.iter_mut().enumerate() {
         place.sit(&format!("00000000-0000-4000-8000-00000000010{number}"))?;
@@ -44,7 +44,7 @@ fn no_mutation_is_lost() -> Result<(), Refusal> {
 /// A place goes from one thread to another, which may close it.
 #[test]
 fn a_place_moves() -> Result<(), Refusal> {
-    let group = Group { id: "00000000-0000-4000-8000-000000000001", profile: "", schema: "", rules: "", slots: 64 };
+    let group = Group { id: ID, profile: "", schema: "", rules: "", own_mutators: false, slots: 64 };
     let [mut anna, mut bert] = group.open()?;
     anna.sit("00000000-0000-4000-8000-00000000000a")?;
     bert.sit("00000000-0000-4000-8000-00000000000b")?;

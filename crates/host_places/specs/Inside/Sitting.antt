@@ -1,5 +1,6 @@
 -- Who is taken from a place and put there in a call.
-use Rattle.std.specs.Prelude.{◌≡◌, Bool, true, None, Some, IfSome}
+use Rattle.std.specs.Prelude.{◌≡◌, Bool, None, Some, IfSome}
+use Rattle.group_history.specs.Map.{Bytes}
 use Rattle.group_history.specs.Meaning.{Meanings}
 use Rattle.commit_graph.specs.Seats.{IsSeatOf, Seated}
 use Rattle.group_steps.specs.Missing.{map_ok}
@@ -11,7 +12,7 @@ use Rattle.host_places.specs.declared.outcomes.Outcome.TheVariants.{Asked as Ask
 use Rattle.host_places.specs.declared.sitting.Sitting.{Sitting}
 use Rattle.host_places.specs.Answers.{HasLeft}
 use Rattle.host_places.specs.Places.{PlaceState, free_place}
-use Rattle.host_places.specs.Runs.{IsBegunAt}
+use Rattle.host_places.specs.Runs.{IsAsking}
 use Rattle.host_places.specs.Sitting.{asking_of, client_of, seat_of}
 use Rattle.host_places.specs.Told.{Told, replied_told, tells, told_alone}
 
@@ -20,10 +21,10 @@ abbrev pub IsAt : Grouped → ClientState → Type 0
 IsAt group client = (client.group ≡ group) × IsSeatOf group.group client.seat
 
 -- who sits there is of this group
-abbrev pub CanSit : Bool → Meanings → Grouped → {M : Type 0} → Sitting M → Type 0
-CanSit asks means group sitting = IfSome (seat_of sitting) (IsSeatOf group.group)
+abbrev pub CanSit : (Bytes → Bool) → Meanings → Grouped → {M : Type 0} → Sitting M → Type 0
+CanSit has means group sitting = IfSome (seat_of sitting) (IsSeatOf group.group)
     × IfSome (client_of sitting) (IsAt group)
-    × IfSome (asking_of sitting) (λ a. (asks ≡ true) × IsBegunAt means group a)
+    × IfSome (asking_of sitting) (IsAsking has means group)
 
 abbrev pub with_sitting : {M : Type 0} → Sitting M → PlaceState → PlaceState
 with_sitting sitting p = record p { seat = seat_of sitting; client = client_of sitting; asking = asking_of sitting }
@@ -33,12 +34,12 @@ abbrev pub IsTakenFrom : PlaceState → Type 0
 IsTakenFrom p = (p.seat ≡ None) × (p.client ≡ None) × (p.asking ≡ None)
 
 -- who sat there was taken
-pub record IsTaken (asks : Bool) (means : Meanings) {M : Type 0} (sitting : Sitting M) (old new : PlaceState)
+pub record IsTaken (has : Bytes → Bool) (means : Meanings) {M : Type 0} (sitting : Sitting M) (old new : PlaceState)
     : Type 0 where
   pub seat : seat_of sitting ≡ old.seat
   pub client : client_of sitting ≡ old.client
   pub asking : asking_of sitting ≡ old.asking
-  pub fits : CanSit asks means new.group sitting
+  pub fits : CanSit has means new.group sitting
   pub left : new ≡ record old { seat = None; client = None; asking = None }
 
 -- the client left, and its tickets and watches are given up
@@ -46,8 +47,8 @@ abbrev pub IsLeft : ClientState → PlaceState → PlaceState → Type 0
 IsLeft client old new = (seat : Seated) × HasLeft client seat × (new ≡ free_place old.group seat)
 
 -- what a change came to is of this group
-abbrev pub IsStepAt : Meanings → Grouped → {M S T : Type 0} → Asked M S T → Type 0
-IsStepAt means group step = Tells step (IsBegunAt means group) (λ c reply. IsAt group c)
+abbrev pub IsStepAt : (Bytes → Bool) → Meanings → Grouped → {M S T : Type 0} → Asked M S T → Type 0
+IsStepAt has means group step = Tells step (IsAsking has means group) (λ c reply. IsAt group c)
 
 -- it is told, and the place, from which the client was taken, has it
 abbrev pub Stands : {M S T : Type 0} → Asked M S T → PlaceState → Told → PlaceState → Type 0

@@ -103,7 +103,8 @@ fn add_rebased(
         chunks: shelf,
         mutators: &ScriptMutators,
     };
-    let (confirmed, left) = after_changes(alloc, &base, pending, pull)?;
+    let (confirmed, kept) = after_changes(alloc, &base, pending, pull)?;
+    let left = kept.as_slice();
     let basis = add_patched::<Shelf<'_>, Brand, ScriptMutators>(
         &setting,
         &mut draft,
@@ -111,14 +112,14 @@ fn add_rebased(
         pull,
         confirmed,
     )?;
-    let Some(tree) = run_pending::<Shelf<'_>, Brand, ScriptMutators>(
-        &setting, &draft, basis.root, &left,
-    )?
-    else {
+    let found = run_pending::<Shelf<'_>, Brand, ScriptMutators>(
+        &setting, &draft, basis.root, left,
+    )?;
+    let Some(tree) = found else {
         return Err(Refusal::NoMutator);
     };
     let tip = add_replayed::<Shelf<'_>, Brand, ScriptMutators>(
-        &setting, &mut draft, basis, &left, tree,
+        &setting, &mut draft, basis, left, tree,
     )?;
     nodes.append(draft)?;
     Ok(tip.commit)

@@ -120,8 +120,7 @@ class Refusal(Exception):
 
     `code` is that of the mutator where `why` is `Why.REFUSED`, and a `VersionKind` where it is
     `Why.VERSION_NOT_SUPPORTED`. `fault` says what is wrong with rules where it is `Why.BAD_RULES`, and where:
-    `/add/0/2: unknown word` (`docs/RULES.md`). It is empty where they only stand beside mutators of the program's own,
-    and where memory was refused.
+    `/add/0/2: unknown word` (`docs/RULES.md`). It is empty where memory was refused.
     """
 
     def __init__(self, why: Why, code: int = 0, fault: str = "") -> None:
@@ -505,8 +504,8 @@ class Place:
     def look(self) -> Iterator[Draft]:
         """The map as of one moment: that of a change which is given up at the end.
 
-        For groups whose mutators are the program's own: in others it is refused with `Why.NO_MUTATOR`. Where no slot
-        is free for the change it is refused with `Why.FULL`, and where the group is closed with `Why.CLOSED`.
+        For groups with mutators of the program's own: in others it is refused with `Why.NO_MUTATOR`. Where no slot is
+        free for the change it is refused with `Why.FULL`, and where the group is closed with `Why.CLOSED`.
         """
         with self._lock:
             # Else each look of a client that made no mutation for long walks over all that is pending.
@@ -626,10 +625,11 @@ class Group:
     """A client group that lives in memory and starts empty, and its places.
 
     It is opened with its ID, a UUID, the profile ID and the schema version of its requests, 16 to 16,777,216 slots of
-    some 80 bytes each, and 1 to 256 places. Its mutators are data (`rules`: `docs/RULES.md`; without them it has those
-    of scripts alone), or functions of the program (`mutators`; then there are no others). A group never grows:
-    `docs/USING.md` says how many slots to ask for. It starts empty, so its clients need IDs that no group had before:
-    see `Place.sit`. `Replicache` has groups that grow and that outlive their process.
+    some 80 bytes each, and 1 to 256 places. Its mutators are data (`rules`: `docs/RULES.md`), functions of the program
+    (`mutators`), or both; ValueError where a name is one of each. Without `mutators` a name that has no rule is a
+    mutator of scripts. A group never grows: `docs/USING.md` says how many slots to ask for. It starts empty, so its
+    clients need IDs that no group had before: see `Place.sit`. `Replicache` has groups that grow and that outlive their
+    process.
     """
 
     def __init__(
@@ -647,6 +647,8 @@ class Group:
         given = [word for text in texts for word in (text, len(text))]
         handles = (_Handle * _within("places", places, 2**16))()
         own = 0 if mutators is None else 1
+        if both := (rules or {}).keys() & (mutators or {}).keys():
+            raise ValueError(f"rules and mutators of one name: {', '.join(sorted(both))}")
         returned = _library().giq_open(*given, _within("slots", slots, 2**32 - 1), own, handles, places)
         if returned == Why.BAD_RULES:
             raise Refusal(Why.BAD_RULES, fault=_rules_fault(texts[-1]))

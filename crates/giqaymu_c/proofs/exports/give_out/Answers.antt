@@ -13,8 +13,8 @@ loop-at-preserved c = record {
       let left = length c.args.places.now - c.loop-at.at in
       let did = c.act-next.ensures in
       let both = gave_next group commit terms left c.loop-at.first c.act-next.result.0 c.act-next.result.1
-      c.act-next.result.2 (omega (arith, c.loop-at-test.true, c.loop-at.invariant.count)) was.0 (did.0, did.1)
-      (did.2, did.3) did.4 c.if-reply-ne0.false in (
+      c.act-next.result.2 (omega (arith, c.loop-at-test.true, c.loop-at.invariant.count)) was.0 did.0
+      did.1 did.2 c.if-reply-ne0.false in (
         still_new group commit terms (left - 1) (length c.args.places.now - (c.loop-at.at + 1)) c.act-next.result.0
             (omega arith) both.0,
         subst (λ h. AreNew group commit terms (c.loop-at.at + 1) (slice_set c.loop-at.places c.loop-at.at h))
@@ -29,5 +29,5 @@ returns-then-reply-ne0-clause-given c = λ group commit terms is.
     let left = length c.args.places.now - c.loop-at.at in
     let did = c.act-next.ensures in
     inr (gave_none group commit terms left c.loop-at.first c.act-next.result.0 c.act-next.result.1 c.act-next.result.2
-    (omega (arith, c.loop-at-test.true, c.loop-at.invariant.count)) was.0 (did.0, did.1) (did.2, did.3) did.4
+    (omega (arith, c.loop-at-test.true, c.loop-at.invariant.count)) was.0 did.0 did.1 did.2
     c.if-reply-ne0.true)

@@ -1,5 +1,5 @@
 -- `act` hands what the handle owns to `act_held`, and takes it back.
-use Rattle.std.proofs.Common.{◌≡◌, List, [], ◌∷◌, ◌++◌, refl, sym, ap, ◌∙◌, subst, w64}
+use Rattle.std.proofs.Common.{List, [], ◌∷◌, ◌++◌, refl, sym, ap, ◌∙◌, subst, w64}
 use mir.Syntax.{Dict, dnil, impl, tcons, tnil, ty_int, ty_struct}
 use mir.Val.{Val, vint, vstruct, of_list}
 use base.Fraction.{full_share}
@@ -13,14 +13,13 @@ use types.ByLocal.{alloc_all, pass_all, free_all, look_at, get, get_in, sets, la
 use types.Part.{agg, sub, whole}
 use contract.BorrowLft.{◌⊑◌, ⊑_static}
 use contract.Monad.{fact, fact_i}
-use contract.Running.{tables, within}
+use contract.Running.{tables}
 use denote.Exit.{no, yes}
 use denote.RattleType.{RattleType}
 use denote.Signature.{plain, named_lft}
 use denote.Steps.{heard, nothing, only}
 use denote.Param.{layout, param}
 use denote.Param.Laws.{Laws, arg_laws}
-use denote.Param.NoDrop.{glues}
 use denote.Param.Send.{IsSync}
 use denote.Struct.Tuple.{Tuple}
 use denote.Triple.Clauses.{Lasts, lasts}
@@ -36,10 +35,10 @@ use Rattle.core.specs.contracts.marker.Brand as Brand
 use Rattle.std_heap.specs.contracts.Global as Heap
 use Rattle.std.proofs.raw_atomic.Walks.{proved_at, leaves}
 use Rattle.giqaymu_c.specs.Owned.{marker, spot_row, place_owns, held_owns}
-use Rattle.host_places.specs.declared.changes.PickedMeaning as PickedMeaning
-use Rattle.rule_mutators.specs.declared.mutators.Picked as Picked
-use Rattle.giqaymu_c.specs.Jobs.{Acts, IsFit, Meant, meant_at, rules_meant}
-use Rattle.giqaymu_c.specs.Own.{runs_mean}
+use Rattle.host_places.specs.declared.mutators.Picked as Picked
+use Rattle.host_places.specs.Mutators.{Meant}
+use Rattle.giqaymu_c.specs.Exports.{IsLike}
+use Rattle.giqaymu_c.specs.Jobs.{Acts, IsFit, meant_at}
 use Rattle.giqaymu_c.proofs.Values.{opaque, al, Held, ptr_good, marked, marked_good, handle_good, held_in, held_out}
 use Rattle.giqaymu_c.proofs.Values.{handle_in, handle_out, three, three_good, three_in}
 use Rattle.giqaymu_c.specs.contracts.handle.Handle as handle
@@ -88,10 +87,9 @@ act_spec {M} 𝓤 𝓛 𝓜 𝓡 wired =
     #self fn (code.unfolded 𝓤 H 𝓜 𝓡 wired) (λ z are.
     let κs = z.0.0 in let qs = z.0.1 in let h = z.0.3.0 in let a = z.0.3.1.0 in let x = z.0.3.1.1.0 in let vs = z.0.4 in
     let Jb : RattleType = Job.the_row (named_lft 1 0 tt κs) in
-    let g : Picked.Ghosts marker.Denot = record { rules = rules_meant h.text } in
-    let m : PickedMeaning.Ghosts marker.Denot = record { meaning = runs_mean h.own } in
-    let meant : Meant = meant_at h.text h.own in
-    let R : RattleType = spot_row h.text h.own in
+    let meant : Meant = meant_at h.text h.asks h.own in
+    let g : Picked.Ghosts marker.Denot = record { meant = meant } in
+    let R : RattleType = spot_row h.text h.asks h.own in
     let Post : Val → SProp 𝓤 = (walk_of 𝓛 En hs c).post z in
     let Run : List Val → SProp 𝓤 = λ ws. WpFn 𝓤 H 𝓣.C 𝓣.Λ fn ws Post in
     let Fits : Type 0 = IsFit x meant h.spot in
@@ -114,9 +112,9 @@ act_spec {M} 𝓤 𝓛 𝓜 𝓡 wired =
     sets ! (of_opd ! (get ! refl)) refl (ptr_good p) $
     sets ! (agg ! (and_then ! (get ! refl) (and_then ! (get ! refl) (no_more !)))) refl typed $
     sets ! (of_opd ! (get ! refl)) refl typed $ sets ! (of_opd ! (get ! refl)) refl fitsJ $
-    let k = triple_of 𝓛 (callee.signature marker g dict m dict glue)
-    (callee.spec marker g dict m dict glue 𝓛 𝓜.mem 𝓡.returns) in
-    let Ce = callee.ended marker g dict m dict glue in
+    let k = triple_of 𝓛 (callee.signature marker g dict)
+    (callee.spec marker g dict 𝓛 𝓜.mem 𝓡.returns) in
+    let Ce = callee.ended marker g dict in
     let d : (Held R).Denot = record { at = p; is_open = n; value = h.spot } in
     let y : k.Ghost = (
       (
@@ -139,11 +137,8 @@ act_spec {M} 𝓤 𝓛 𝓜 𝓡 wired =
     use0 𝓛 (raw (fact 𝓤 ([] ⊑ []))) (fact_i 𝓤 ([] ⊑ []) (emp 𝓤) (⊑_static [])) $ join ! $ move ! (1 ∷ 0 ∷ []) $ join ! $
     use1 𝓛 (raw (k.pre y)) (id⊢ 𝓤 _) $
     calls_at ! (fm 𝓛 𝓜 𝓡) k
-    (met 𝓤 𝓛 𝓜 𝓡 (code.calls-giqaymu_c::spots::act_held 𝓡.env wired) marker marker_laws g dict m dict glue
-    (λ 𝓛' 𝓜' 𝓡' like. record {}) (λ 𝓛' 𝓜' 𝓡' like. record {})
-    (λ 𝓛' 𝓜' 𝓡' like. glues "giqaymu_c::Destruct++none::drop" 𝓡.env
-    (code.calls-giqaymu_c::Destruct++none::drop 𝓡.env wired) marker marker_laws M 𝓤 𝓛' 𝓜'
-    (within 𝓤 𝓛'.H 𝓜' 𝓡' 𝓡.env)))
+    (met 𝓤 𝓛 𝓜 𝓡 (code.calls-giqaymu_c::spots::act_held 𝓡.env wired) marker marker_laws g dict
+    (λ 𝓛' 𝓜' 𝓡' like. record {}))
     y (and_then ! (get ! refl) (and_then ! (get ! refl) (and_then ! (get ! refl) (no_more !)))) (λ u.
     let Did : (Held R).Denot × (Held R).Denot × (Reply.the_row).Denot
     → Type 0 = λ r. Acts x meant h.spot r.2 r.0.value r.1.value in
@@ -180,17 +175,17 @@ act_spec {M} 𝓤 𝓛 𝓜 𝓡 wired =
     sets ! (agg ! (and_then ! (get ! refl) (and_then ! (get ! refl) (and_then ! (get ! refl) (no_more !))))) refl
     (three_good handle.the_row handle.the_row Reply.the_row (marked p₁ n₁) (marked p₂ n₂) tv good₁ good₂ fitsT) $
     let made₁ : (handle.the_row).Denot =
-    record { at = p₁; is_open = n₁; text = h.text; own = h.own; spot = r.0.value } in
+    record { at = p₁; is_open = n₁; text = h.text; asks = h.asks; own = h.own; spot = r.0.value } in
     let made₂ : (handle.the_row).Denot =
-    record { at = p₂; is_open = n₂; text = h.text; own = h.own; spot = r.1.value } in
-    let Ensured : Type 0 = (made₁.text ≡ h.text) × (made₁.own ≡ h.own) × (made₂.text ≡ h.text)
-    × (made₂.own ≡ h.own) × Acts x meant h.spot r.2 made₁.spot made₂.spot in
+    record { at = p₂; is_open = n₂; text = h.text; asks = h.asks; own = h.own; spot = r.1.value } in
+    let Ensured : Type 0 = IsLike h made₁ × IsLike h made₂ × Acts x meant h.spot r.2 made₁.spot made₂.spot in
     returns ! (look_at ! 0 refl) $ free_all ! refl $ keep ! (2 ∷ 3 ∷ 0 ∷ 4 ∷ []) $
-    use1 𝓛 (‵ (place_owns h.text h.own n₂ p₂ r.1.value)) (id⊢ 𝓤 _) $ handle_in ! p₂ n₂ h.text h.own r.1.value flag₂ $
-    move ! (1 ∷ []) $ use1 𝓛 (‵ (place_owns h.text h.own n₁ p₁ r.0.value)) (id⊢ 𝓤 _) $
-    handle_in ! p₁ n₁ h.text h.own r.0.value flag₁ $
+    use1 𝓛 (‵ (place_owns h.text h.asks h.own n₂ p₂ r.1.value)) (id⊢ 𝓤 _) $ handle_in ! p₂ n₂ h.text h.asks h.own
+    r.1.value flag₂ $
+    move ! (1 ∷ []) $ use1 𝓛 (‵ (place_owns h.text h.asks h.own n₁ p₁ r.0.value)) (id⊢ 𝓤 _) $
+    handle_in ! p₁ n₁ h.text h.asks h.own r.0.value flag₁ $
     three_in ! handle.the_row handle.the_row Reply.the_row made₁ made₂ r.2 (marked p₁ n₁) (marked p₂ n₂) tv $
-    use0 𝓛 (raw (fact 𝓤 Ensured)) (fact_i 𝓤 Ensured (emp 𝓤) (refl, refl, refl, refl, did)) $
+    use0 𝓛 (raw (fact 𝓤 Ensured)) (fact_i 𝓤 Ensured (emp 𝓤) ((refl, refl, refl), (refl, refl, refl), did)) $
     nothing ! $ nothing ! $ nothing ! $ nothing ! $ fjoin ! $ move ! (1 ∷ 0 ∷ []) $ fjoin ! $ move ! (1 ∷ 0 ∷ []) $
     fjoin ! $
     move ! (3 ∷ []) $ split3 ! $ move ! (1 ∷ []) $ drop ! $ join ! $ move ! (0 ∷ 1 ∷ 3 ∷ 2 ∷ []) $

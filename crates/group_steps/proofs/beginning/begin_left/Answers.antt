@@ -21,7 +21,8 @@ finish-requires-clause-tip g c κs within =
       t.1,
       t.2,
       subst (λ (o : Option Tree). IfSome o (λ (tree : Tree). tree_map there tree
-          ≡ Some (replayed means (view_of means t.0) c.deref.result.now))) c.in-Some.is (c.in_ok-tree.ensures.map t.0 t.1)
+          ≡ Some (replayed means (view_of means t.0) c.deref.result.now))) c.in-Some.is
+          (c.in_ok-tree.ensures.map t.0 t.1)
           ∙ ap (λ (ys : List Mutation). Some (replayed means (view_of means t.0) ys)) c.deref.ensures.value,
     )
 
@@ -59,11 +60,11 @@ returns-in-None-clause-step g c s last ticket r tip opened bare accepted whole =
     c.requires.new (c.at-tree.ensures.map (drafted cs chain) ∙ tip.1)
 
 pub returns-in-Some-clause-first : goal.returns-in-Some-clause-first
-returns-in-Some-clause-first g c = left_ended g.M.Runs.has c.args.left.items c.finish.result c.finish.ensures.none
+returns-in-Some-clause-first g c = left_ended g.M.Has.has c.args.left.items c.finish.result c.finish.ensures.none
 
 pub returns-in-None-clause-first : goal.returns-in-None-clause-first
 returns-in-None-clause-first g c =
-    let has = g.M.Runs.has in let means = g.M.Means.means in let cs = drawn c.args.at.now.mark.log in
+    let has = g.M.Has.has in let means = g.M.Means.means in let cs = drawn c.args.at.now.mark.log in
     let left = c.args.left.items in let t = c.requires.tip in let m = view_of means t.0 in
     left_of_on has means cs left m c.go_on.result (subst (λ (ys : List Mutation). IfOk c.go_on.result
     (IsOn has means cs ys m)) (ap reverse c.reverse.ensures.items ∙ reverse-reverse left)

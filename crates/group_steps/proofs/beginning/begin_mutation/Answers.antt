@@ -26,7 +26,8 @@ begin_next-requires-clause-new g c κs within =
     let again : c.in_ok-again.again ≡ c.args.mutation.now = search rules in
     record {
       first = sym c.requires.spot.drawn ∙ sym (ap (λ (d : Drafted). d.first) c.new-draft.ensures);
-      needed = needed_begun (tip.commit ∷ []) tip.commit c.args.spot.first draft draft c.new-draft.ensures (λ others h. h);
+      needed = needed_begun (tip.commit ∷ []) tip.commit c.args.spot.first draft draft c.new-draft.ensures
+          (λ others h. h);
       tip = subst (λ (w : Contents). IsTip g.M.Means.means w tip s) (sym bare) c.requires.spot.stands;
       next = subst (λ (y : Mutation). IsNext s last y) (sym again) (record {
         opened = c.requires.spot.opened;
@@ -39,14 +40,15 @@ begin_next-requires-clause-new g c κs within =
 pub returns-clause-step : goal.returns-clause-step
 returns-clause-step g c =
     let at = c.args.at.now in let again : c.in_ok-again.again ≡ c.args.mutation.now = search rules in
-    subst (λ (y : Mutation). IfOk c.begin_next.result (MayStep g.M.Runs.has g.M.Means.means (drawn at.mark.log) at.commit
+    subst (λ (y : Mutation). IfOk c.begin_next.result (MayStep g.M.Has.has g.M.Means.means (drawn at.mark.log) at.commit
     (state_at at) c.args.before.id (Mutated y))) again c.begin_next.ensures.step
 
 pub returns-clause-err : goal.returns-clause-err
 returns-clause-err g c =
     let again : c.in_ok-again.again ≡ c.args.mutation.now = search rules in
-    subst (λ (y : Mutation). IfErr c.begin_next.result (IsUnproposed (IsStop g.S.Slots.reused) (change_asked (Mutated y))
+    subst (λ (y : Mutation). IfErr c.begin_next.result (IsUnproposed (IsStop g.S.Slots.reused)
+    (change_asked (Mutated y))
     (asked_reply g.M.Means.means (state_at c.args.at.now) c.args.before.id (Mutated y)))) again c.begin_next.ensures.err
 
 pub returns-clause-first : goal.returns-clause-first
-returns-clause-first g c = first_mutated g.M.Runs.has (state_at c.args.at.now) c.args.mutation.now c.begin_next.result
+returns-clause-first g c = first_mutated g.M.Has.has (state_at c.args.at.now) c.args.mutation.now c.begin_next.result

@@ -16,7 +16,7 @@ use Rattle.group_steps.proofs.beginning.begin_next.Goals as goal
 pub end_new-requires-clause-ran : goal.end_new-requires-clause-ran
 end_new-requires-clause-ran g c κs within =
     let means = g.M.Means.means in let x = c.args.mutation in let m = view_of means (state_at c.args.at.now) in
-    (subst (λ (w : OwnRun). MayRun (drafted (drawn c.args.at.now.mark.log) c.args.chain) (g.M.Runs.has x.name)
+    (subst (λ (w : OwnRun). MayRun (drafted (drawn c.args.at.now.mark.log) c.args.chain) (g.M.Has.has x.name)
     (meaning_of means x m) m w) c.in-Ran.is c.in_ok-run.ensures.ran).1
 
 pub returns-in_ok-new-in-Lacks-clause-step : goal.returns-in_ok-new-in-Lacks-clause-step
@@ -25,11 +25,12 @@ returns-in_ok-new-in-Lacks-clause-step g c =
     let m = view_of means s in let there = drafted (drawn c.args.at.now.mark.log) c.args.chain in
     let n = c.requires.new in let ran = c.new.ensures.items in let behind = c.new-in-Lacks-2.ensures.items in
     let rest = c.new-in-Lacks-2.result.items in
-    let may = subst (λ (w : OwnRun). MayRun there (g.M.Runs.has x.name) (meaning_of means x m) m w) c.in-Lacks.is
+    let may = subst (λ (w : OwnRun). MayRun there (g.M.Has.has x.name) (meaning_of means x m) m w) c.in-Lacks.is
     c.in_ok-run.ensures.ran in
-    let b = begun there c.new-in-Lacks.result c.in-Lacks.tree m c.new-in-Lacks.ensures.0 c.new-in-Lacks.ensures.1 may.1 in
+    let b = begun there c.new-in-Lacks.result c.in-Lacks.tree m c.new-in-Lacks.ensures.0 c.new-in-Lacks.ensures.1
+    may.1 in
     subst (λ (w : AskedRun). IsAskedRun means (drawn c.args.at.now.mark.log) s c.args.last (Mutated x) w
-    × IsFresh g.M.Runs.has (drawn c.args.at.now.mark.log) w) (sym c.in_ok-new-in-Lacks.ensures) (
+    × IsFresh g.M.Has.has (drawn c.args.at.now.mark.log) w) (sym c.in_ok-new-in-Lacks.ensures) (
       record {
         leads = record {
           first = n.first;

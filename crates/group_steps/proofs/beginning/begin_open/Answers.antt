@@ -13,7 +13,7 @@ pub returns-in-Pulled-clause-step : goal.returns-in-Pulled-clause-step
 returns-in-Pulled-clause-step g c =
     let p = c.args.at.now in let last = c.args.request.now.before.id in
     subst (λ (w : Change). IfOk c.begin_pull.result
-    (MayStep g.M.Runs.has g.M.Means.means (drawn p.mark.log) p.commit (state_at p) last w)) (sym c.in-Pulled.is)
+    (MayStep g.M.Has.has g.M.Means.means (drawn p.mark.log) p.commit (state_at p) last w)) (sym c.in-Pulled.is)
     (c.begin_pull.ensures.step last)
 
 pub returns-in-Pulled-clause-err : goal.returns-in-Pulled-clause-err
@@ -28,7 +28,7 @@ pub returns-in-Closed-clause-step : goal.returns-in-Closed-clause-step
 returns-in-Closed-clause-step g c =
     let p = c.args.at.now in let last = c.args.request.now.before.id in
     subst (λ (w : Change). IfOk c.begin_closing.result
-    (MayStep g.M.Runs.has g.M.Means.means (drawn p.mark.log) p.commit (state_at p) last w)) (sym c.in-Closed.is)
+    (MayStep g.M.Has.has g.M.Means.means (drawn p.mark.log) p.commit (state_at p) last w)) (sym c.in-Closed.is)
     (c.begin_closing.ensures.step last)
 
 pub returns-in-Closed-clause-err : goal.returns-in-Closed-clause-err

@@ -28,7 +28,8 @@ returns-clause-step g c last =
     (c.in_ok-confirmed.ensures.left ∙ ap (λ ids. left_pending ids c.args.pending.now)
     (sym c.in_ok-confirmed.ensures.confirmed)) c.requires.pending c.requires.spot.opened in
     c.begin_left.ensures.step start last ticket pull c.in_ok-chain.ensures.tip refl refl
-    (ended_open s ticket.text pull c.requires.spot.opened ∙ c.requires.applied, c.in_ok-confirmed.ensures.in_range) whole
+    (ended_open s ticket.text pull c.requires.spot.opened ∙ c.requires.applied, c.in_ok-confirmed.ensures.in_range)
+    whole
 
 pub returns-clause-first : goal.returns-clause-first
 returns-clause-first g c =
@@ -40,5 +41,5 @@ returns-clause-first g c =
     left.items c.args.pending.now refl refl c.in_ok-confirmed.ensures.confirmed refl (sym base.1)
     (c.in_ok-confirmed.ensures.left ∙ ap (λ ids. left_pending ids c.args.pending.now)
     (sym c.in_ok-confirmed.ensures.confirmed)) c.requires.pending c.requires.spot.opened in
-    first_of_left g.M.Runs.has s ticket pull left.items c.begin_left.result c.begin_left.ensures.first
+    first_of_left g.M.Has.has s ticket pull left.items c.begin_left.result c.begin_left.ensures.first
     (ap (λ (w : State). w.pending) whole)

@@ -23,7 +23,7 @@ returns-clause-ran g c =
     let means = g.M.Means.means in let chain = c.args.chain.now in let x = c.args.mutation.now in
     let m = view_of means (state_at c.args.at.now) in
     let here = with_nodes (drawn c.nodes.result.mark.now.log) chain.draft.nodes in
-    subst (λ (w : Contents). IfOk c.run_on.result (MayRun (with_nodes w chain.draft.nodes) (g.M.Runs.has x.name)
+    subst (λ (w : Contents). IfOk c.run_on.result (MayRun (with_nodes w chain.draft.nodes) (g.M.Has.has x.name)
     (meaning_of means x m) m)) c.nodes.ensures.nodes (c.run_on.ensures.ran m (c.at-tree.ensures.map here
     ∙ subst (λ (w : Contents). map_at (with_nodes w chain.draft.nodes) (stamp_of chain.tip.root) ≡ Some m)
     (sym c.nodes.ensures.nodes) c.requires.tip.1))

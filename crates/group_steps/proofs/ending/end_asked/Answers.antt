@@ -36,7 +36,7 @@ end_new-requires-clause-ran g c κs within =
 pub returns-clause-step : goal.returns-clause-step
 returns-clause-step g c =
     let at = c.args.at.now in
-    subst (λ (y : Mutation). IfOk c.end_new.result (MayStep g.M.Runs.has g.M.Means.means (drawn at.mark.log) at.commit
+    subst (λ (y : Mutation). IfOk c.end_new.result (MayStep g.M.Has.has g.M.Means.means (drawn at.mark.log) at.commit
     (state_at at) c.args.last (Mutated y))) c.requires.run.judged.0 c.end_new.ensures.step
 
 pub returns-clause-err : goal.returns-clause-err

@@ -41,7 +41,8 @@ returns-clause-step g c =
     let chain = c.args.chain in let x = c.args.mutation in let last = c.args.last in let n = c.requires.new in
     let right = meaning_of means x (view_of means s) in
     let tree = c.in_ok-tree.ensures.ok (drafted cs chain) right c.requires.ran in
-    let spelled = c.in_ok-after.ensures.spelled cs (version_of means s) tree.0 n.first n.tip.0 n.tip.2 n.next.opened tree.1 in
+    let spelled = c.in_ok-after.ensures.spelled cs (version_of means s) tree.0 n.first n.tip.0 n.tip.2 n.next.opened
+    tree.1 in
     let shape : Entries → Version = λ r. record { state = after_mutate s x; read = r } in
     let read = left-done right (view_of means s) tree.0 tree.2 ∙ sym (view-mutated means s x) in
     let reply = reply_next means s x last n.next.opened n.next.own n.next.next ∙ reply-done right tree.0 x.id tree.2 in (

@@ -19,7 +19,8 @@ go_on-requires-clause-leads g c κs within =
       after,
       replayed means start (x ∷ []),
       subst (λ (ys : List Mutation). Leads means cs after run.chain ys rest (replayed means start (x ∷ [])))
-          (sym c.in_ok-push.ensures.items) (leads_on means cs after run.chain run.ran.items (x ∷ []) (x ∷ rest) rest start
+          (sym c.in_ok-push.ensures.items) (leads_on means cs after run.chain run.ran.items (x ∷ [])
+          (x ∷ rest) rest start
           refl r.leads),
       c.in_ok-tree.ensures.left (meaning_of means x start) c.requires.ran,
     )
@@ -36,7 +37,7 @@ returns-clause-step g c =
 
 pub returns-clause-behind : goal.returns-clause-behind
 returns-clause-behind g c =
-    let has = g.M.Runs.has in let means = g.M.Means.means in let cs = drawn c.args.at.now.mark.log in
+    let has = g.M.Has.has in let means = g.M.Means.means in let cs = drawn c.args.at.now.mark.log in
     let run = c.args.run in let x = run.mutation in let start = run_start cs run in
     let meaning = meaning_of means x start in
     behind_of_on has means cs run c.args.ran c.go_on.result (subst (λ (m : Entries). IfOk c.go_on.result

@@ -14,7 +14,8 @@ use Rattle.group_steps.proofs.ending.end_run.Goals as goal
 pub end_asked-requires-clause-run : goal.end_asked-requires-clause-run
 end_asked-requires-clause-run g c κs within =
     let p = c.args.at.now in let means = g.M.Means.means in let last = c.args.request.now.before.id in
-    subst (λ (w : Change). IsAskedRun means (drawn p.mark.log) (state_at p) last w c.into_run-run.result) c.in-Mutated.is
+    subst (λ (w : Change). IsAskedRun means (drawn p.mark.log) (state_at p) last w c.into_run-run.result)
+    c.in-Mutated.is
     (subst (λ (r : AskedRun). IsAskedRun means (drawn p.mark.log) (state_at p) last c.args.request.now.change.now r)
     (sym c.into_run-run.ensures) c.requires.run)
 
@@ -35,12 +36,12 @@ end_rebased-requires-clause-ran g c κs within = subst (λ (r : AskedRun). IsRun
 
 pub returns-in-Mutated-clause-behind : goal.returns-in-Mutated-clause-behind
 returns-in-Mutated-clause-behind g c =
-    let has = g.M.Runs.has in let means = g.M.Means.means in let cs = drawn c.args.at.now.mark.log in
+    let has = g.M.Has.has in let means = g.M.Means.means in let cs = drawn c.args.at.now.mark.log in
     behind_ended has means cs c.args.run c.args.ran c.end_asked.result c.end_asked.ensures.none
 
 pub returns-in-Pulled-clause-behind : goal.returns-in-Pulled-clause-behind
 returns-in-Pulled-clause-behind g c =
-    let has = g.M.Runs.has in let means = g.M.Means.means in let cs = drawn c.args.at.now.mark.log in
+    let has = g.M.Has.has in let means = g.M.Means.means in let cs = drawn c.args.at.now.mark.log in
     subst (λ (r : AskedRun). IfOk c.end_rebased.result (IsBehind has means cs r c.args.ran)) c.into_run-run.ensures
     c.end_rebased.ensures.behind
 

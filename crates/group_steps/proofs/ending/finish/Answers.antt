@@ -33,8 +33,10 @@ returns-clause-step g c last ticket r map accepted l new mapped =
     let means = g.M.Means.means in let at = c.args.at.now in let cs = drawn at.mark.log in let s = state_at at in
     let chain = c.args.chain in let xs = c.deref.result.now in let ran = c.args.ran.items in
     let here = c.nodes.ensures.nodes in let first = c.add_replayed.ensures.first in
-    let tip = subst (λ (w : Contents). IsTip means (with_nodes w chain.draft.nodes) chain.tip l.basis) (sym here) l.tip in
-    let left = subst (λ (w : Contents). tree_map (with_nodes w chain.draft.nodes) c.args.tree ≡ Some map) (sym here) mapped
+    let tip = subst (λ (w : Contents). IsTip means (with_nodes w chain.draft.nodes) chain.tip l.basis)
+    (sym here) l.tip in
+    let left = subst (λ (w : Contents). tree_map (with_nodes w chain.draft.nodes) c.args.tree ≡ Some map)
+    (sym here) mapped
     ∙ ap (λ m. Some m) (l.mapped ∙ ap (replayed means (view_of means l.basis)) (sym c.deref.ensures.value)) in
     let after = (c.in_ok-after.ensures.tip l.basis tip l.opened left).0 in
     let whole : with_more l.basis ran ≡ after_pull s r = ap (with_more l.basis) (sym (append-nil ran)) ∙ l.whole in

@@ -20,18 +20,18 @@ use Rattle.group_steps.proofs.ending.go_on.Goals as goal
 
 pub run_next-requires-clause-behind : goal.run_next-requires-clause-behind
 run_next-requires-clause-behind g c κs within =
-    let l = c.requires.leads in sym (leads_gone g.M.Runs.has g.M.Means.means (drawn c.args.at.now.mark.log) l.0
+    let l = c.requires.leads in sym (leads_gone g.M.Has.has g.M.Means.means (drawn c.args.at.now.mark.log) l.0
     c.args.replaying c.loop-mutation.now l.1 c.loop-mutation.invariant l.2).first
 
 pub run_next-requires-clause-map : goal.run_next-requires-clause-map
 run_next-requires-clause-map g c κs within =
     let l = c.requires.leads in
-    subst (λ o. IsSome o) (sym (mapped_gone g.M.Runs.has g.M.Means.means (drawn c.args.at.now.mark.log)
+    subst (λ o. IsSome o) (sym (mapped_gone g.M.Has.has g.M.Means.means (drawn c.args.at.now.mark.log)
     c.args.replaying c.loop-mutation.now l.1 c.loop-mutation.invariant l.3)) refl
 
 pub loop-mutation-preserved : goal.loop-mutation-preserved
 loop-mutation-preserved g c =
-    let has = g.M.Runs.has in let means = g.M.Means.means in let cs = drawn c.args.at.now.mark.log in
+    let has = g.M.Has.has in let means = g.M.Means.means in let cs = drawn c.args.at.now.mark.log in
     let l = c.requires.leads in let now = c.loop-mutation.now in let x = c.in-Some.mutation in
     let popped : Replaying = record { chain = now.chain; ran = now.ran; tree = now.tree; behind = c.pop.new.self } in
     gone_more has means cs c.args.replaying now popped c.in-On.next x l.1 l.3 c.loop-mutation.invariant refl refl
@@ -40,23 +40,24 @@ loop-mutation-preserved g c =
 
 pub finish-requires-clause-behind : goal.finish-requires-clause-behind
 finish-requires-clause-behind g c κs within =
-    let l = c.requires.leads in sym (leads_gone g.M.Runs.has g.M.Means.means (drawn c.args.at.now.mark.log) l.0
+    let l = c.requires.leads in sym (leads_gone g.M.Has.has g.M.Means.means (drawn c.args.at.now.mark.log) l.0
     c.args.replaying c.loop-mutation.now l.1 c.loop-mutation.invariant l.2).first
 
 pub finish-requires-clause-tip : goal.finish-requires-clause-tip
 finish-requires-clause-tip g c κs within =
-    let has = g.M.Runs.has in let means = g.M.Means.means in let cs = drawn c.args.at.now.mark.log in
+    let has = g.M.Has.has in let means = g.M.Means.means in let cs = drawn c.args.at.now.mark.log in
     let l = c.requires.leads in let v = c.loop-mutation.invariant in
     let more = leads_gone has means cs l.0 c.args.replaying c.loop-mutation.now l.1 v l.2 in (
       more.basis,
       more.tip,
       more.opened,
-      mapped_gone has means cs c.args.replaying c.loop-mutation.now l.1 v l.3 ∙ ap (λ (m : Entries). Some m) more.mapped,
+      mapped_gone has means cs c.args.replaying c.loop-mutation.now l.1 v l.3 ∙ ap
+          (λ (m : Entries). Some m) more.mapped,
     )
 
 pub returns-in-Asked-clause-step : goal.returns-in-Asked-clause-step
 returns-in-Asked-clause-step g c last ticket r map accepted l new mapped =
-    let has = g.M.Runs.has in let means = g.M.Means.means in let cs = drawn c.args.at.now.mark.log in
+    let has = g.M.Has.has in let means = g.M.Means.means in let cs = drawn c.args.at.now.mark.log in
     let s = state_at c.args.at.now in let now = c.loop-mutation.now in let x = c.in-Some.mutation in
     let v = c.loop-mutation.invariant in let m = replayed means map v.own in
     let popped : Replaying = record { chain = now.chain; ran = now.ran; tree = now.tree; behind = c.pop.new.self } in
@@ -67,7 +68,7 @@ returns-in-Asked-clause-step g c last ticket r map accepted l new mapped =
 
 pub returns-in-Asked-clause-next : goal.returns-in-Asked-clause-next
 returns-in-Asked-clause-next g c map mapped =
-    let has = g.M.Runs.has in let means = g.M.Means.means in let cs = drawn c.args.at.now.mark.log in
+    let has = g.M.Has.has in let means = g.M.Means.means in let cs = drawn c.args.at.now.mark.log in
     let now = c.loop-mutation.now in let x = c.in-Some.mutation in
     let v = c.loop-mutation.invariant in let m = replayed means map v.own in
     let popped : Replaying = record { chain = now.chain; ran = now.ran; tree = now.tree; behind = c.pop.new.self } in
@@ -77,7 +78,7 @@ returns-in-Asked-clause-next g c map mapped =
 
 pub returns-clause-step : goal.returns-clause-step
 returns-clause-step g c last ticket r map accepted l new mapped =
-    let has = g.M.Runs.has in let means = g.M.Means.means in let cs = drawn c.args.at.now.mark.log in
+    let has = g.M.Has.has in let means = g.M.Means.means in let cs = drawn c.args.at.now.mark.log in
     let s = state_at c.args.at.now in let now = c.loop-mutation.now in let v = c.loop-mutation.invariant in
     let m = replayed means map v.own in
     let none : now.behind.items ≡ [] = search rules in
@@ -87,7 +88,7 @@ returns-clause-step g c last ticket r map accepted l new mapped =
     (mapped_gone has means cs c.args.replaying now map v mapped)
 
 pub returns-clause-next : goal.returns-clause-next
-returns-clause-next g c map mapped = on_ended g.M.Runs.has g.M.Means.means (drawn c.args.at.now.mark.log)
+returns-clause-next g c map mapped = on_ended g.M.Has.has g.M.Means.means (drawn c.args.at.now.mark.log)
     (reverse c.args.replaying.behind.items) map c.finish.result c.finish.ensures.none
 
 pub returns-clause-late : goal.returns-clause-late
@@ -96,7 +97,7 @@ returns-clause-late g c = subst (λ (h : Chain). IfErr c.finish.result (λ (e : 
 
 pub loop-mutation-smaller : goal.loop-mutation-smaller
 loop-mutation-smaller g c =
-    let has = g.M.Runs.has in let means = g.M.Means.means in let cs = drawn c.args.at.now.mark.log in
+    let has = g.M.Has.has in let means = g.M.Means.means in let cs = drawn c.args.at.now.mark.log in
     let l = c.requires.leads in let now = c.loop-mutation.now in let x = c.in-Some.mutation in
     let v = c.loop-mutation.invariant in let m = replayed means l.1 v.own in
     let popped : Replaying = record { chain = now.chain; ran = now.ran; tree = now.tree; behind = c.pop.new.self } in

@@ -5,7 +5,7 @@ use Rattle.group_steps.proofs.ending.go_on.Given as goal
 
 -- the group ran the mutations so far
 abbrev pub invariant-loop-mutation : goal.invariant-loop-mutation
-invariant-loop-mutation g l = GoesOn g.M.Runs.has g.M.Means.means (drawn l.at.mark.log) l.initial.now l.now
+invariant-loop-mutation g l = GoesOn g.M.Has.has g.M.Means.means (drawn l.at.mark.log) l.initial.now l.now
 
 abbrev pub decreases-loop-mutation : goal.decreases-loop-mutation
 decreases-loop-mutation g l = vec_len l.now.behind

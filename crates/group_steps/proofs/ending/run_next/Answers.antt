@@ -12,7 +12,7 @@ use Rattle.group_steps.proofs.ending.run_next.Goals as goal
 pub returns-in_ok-push-in-Ran-clause-went : goal.returns-in_ok-push-in-Ran-clause-went
 returns-in_ok-push-in-Ran-clause-went g c map mapped =
     let there = drafted (drawn c.args.at.now.mark.log) c.args.replaying.chain in let x = c.args.mutation in
-    let may = subst (λ (w : Replayed). MayReplay there (g.M.Runs.has x.name) g.M.Means.means map x w) c.in-Ran.is
+    let may = subst (λ (w : Replayed). MayReplay there (g.M.Has.has x.name) g.M.Means.means map x w) c.in-Ran.is
     (c.in_ok-tree.ensures.left map mapped) in
     (may.0, refl, refl, c.in_ok-push-in-Ran.ensures.items, may.1)
 
@@ -20,7 +20,7 @@ pub returns-in_ok-new-in-Lacks-clause-went : goal.returns-in_ok-new-in-Lacks-cla
 returns-in_ok-new-in-Lacks-clause-went g c map mapped =
     let cs = drawn c.args.at.now.mark.log in let was = c.args.replaying in
     let there = drafted cs was.chain in let x = c.args.mutation in let means = g.M.Means.means in
-    let may = subst (λ (w : Replayed). MayReplay there (g.M.Runs.has x.name) means map x w) c.in-Lacks.is
+    let may = subst (λ (w : Replayed). MayReplay there (g.M.Has.has x.name) means map x w) c.in-Lacks.is
     (c.in_ok-tree.ensures.left map mapped) in
-    subst (λ (w : AskedRun). HasGone g.M.Runs.has means cs was x map (went.Asked w)) (sym c.in_ok-new-in-Lacks.ensures)
+    subst (λ (w : AskedRun). HasGone g.M.Has.has means cs was x map (went.Asked w)) (sym c.in_ok-new-in-Lacks.ensures)
     (may.0, refl, refl, refl, refl, c.new-map.ensures.1, ap (tree_map there) c.new-map.ensures.0 ∙ may.1)

@@ -34,21 +34,26 @@ use Rattle.group_steps.proofs.moving.move_head.Goals as goal
 
 pub exchange-requires-clause-among : goal.exchange-requires-clause-among
 exchange-requires-clause-among g c κs within =
-    let means = g.M.Means.means in let m = c.requires.leads in let st = after (record_of m.log) in let p = c.args.proposal in
+    let means = g.M.Means.means in let m = c.requires.leads in let st = after (record_of m.log) in
+    let p = c.args.proposal in
     let old = c.args.seat.now.mark.log in let mid = c.place_draft.new.seat.mark.log in
     let refs = c.in_ok-refs.refs.items in let new = c.place_of-new.result in
     let placed : new ≡ placed_ref p.draft.first refs p.at =
     c.place_of-new.ensures ∙ ap (λ n. placed_ref n c.deref.result.now p.at) c.first-from.ensures ∙ ap
     (λ rs. placed_ref p.draft.first rs p.at) c.deref.ensures.value in
-    let among = placed_among (drawn old) (drawn mid) p.draft refs c.in_ok-refs.ensures.placed m.leads.contents m.leads.first p.at
+    let among = placed_among (drawn old) (drawn mid) p.draft refs c.in_ok-refs.ensures.placed m.leads.contents
+    m.leads.first p.at
     (version_of means (after_change st c.args.change.now)) m.leads.then m.leads.new in
-    subst (λ (ats : List Ref). Contains ats new) (sym c.deref-2.ensures.value) (subst (Contains refs) (sym placed) among)
+    subst (λ (ats : List Ref). Contains ats new) (sym c.deref-2.ensures.value)
+    (subst (Contains refs) (sym placed) among)
 
 pub exchange-requires-clause-follows : goal.exchange-requires-clause-follows
 exchange-requires-clause-follows g c κs within =
-    let means = g.M.Means.means in let m = c.requires.leads in let st = after (record_of m.log) in let p = c.args.proposal in
+    let means = g.M.Means.means in let m = c.requires.leads in let st = after (record_of m.log) in
+    let p = c.args.proposal in
     let change = c.args.change.now in
-    let old = c.args.seat.now.mark.log in let new = c.place_draft.new.seat.mark.log in let refs = c.in_ok-refs.refs.items in
+    let old = c.args.seat.now.mark.log in let new = c.place_draft.new.seat.mark.log in
+    let refs = c.in_ok-refs.refs.items in
     let placed : c.place_of-new.result ≡ placed_ref p.draft.first refs p.at =
     c.place_of-new.ensures ∙ ap (λ n. placed_ref n c.deref.result.now p.at) c.first-from.ensures ∙ ap
     (λ rs. placed_ref p.draft.first rs p.at) c.deref.ensures.value in
@@ -57,14 +62,16 @@ exchange-requires-clause-follows g c κs within =
     (version_of means (after_change st change)) m.leads.then in
     record {
       state = st;
-      before = spelled-stays old new c.place_draft.ensures.seat.later.seen (stamp_of c.args.proposal.base) (version_of means st) m.base;
+      before = spelled-stays old new c.place_draft.ensures.seat.later.seen (stamp_of c.args.proposal.base)
+          (version_of means st) m.base;
       accepted = m.leads.accepted;
       then = subst (λ (r : Ref). Spells means (drawn new) (stamp_of r) (after_change st change)) (sym placed) spelled;
     }
 
 pub returns-in-Ok-Won-clause-won : goal.returns-in-Ok-Won-clause-won
 returns-in-Ok-Won-clause-won g c s is =
-    let means = g.M.Means.means in let m = c.requires.leads in let st = after (record_of m.log) in let p = c.args.proposal in
+    let means = g.M.Means.means in let m = c.requires.leads in let st = after (record_of m.log) in
+    let p = c.args.proposal in
     let change = c.args.change.now in
     let old = c.args.seat.now.mark in let mid = c.place_draft.new.seat.mark in let new = c.exchange.new.seat.mark in
     let refs = c.in_ok-refs.refs.items in
@@ -85,7 +92,8 @@ returns-in-Ok-Won-clause-won g c s is =
     let won = ends s base in (
       (
         won.0,
-        point_since means old mid new (Some change) won.0 c.place_draft.ensures.seat.later.seen c.place_draft.ensures.seat.later.seat
+        point_since means old mid new (Some change) won.0 c.place_draft.ensures.seat.later.seen
+            c.place_draft.ensures.seat.later.seat
             c.place_draft.ensures.own won.1,
         won.2,
       ),
@@ -102,7 +110,8 @@ returns-in_err-refs-clause-frees g c r =
     subst (FreesMove may c.args.change.now old mid) (sym p.1)
     (gives_up may _ (length c.args.proposal.draft.nodes) old mid refl (e.loads r) (e.reached r)
     (subst (λ (t : ClaimsId). GivesOneUp t.sizes.slots (kind_end c.args.shared.now.table.sizes c.args.proposal.kind)
-    (length c.args.proposal.draft.nodes) old.view.deeds old mid) (sym c.requires.reading.0.1) (c.in_err-refs.ensures.given r)))
+    (length c.args.proposal.draft.nodes) old.view.deeds old mid) (sym c.requires.reading.0.1)
+    (c.in_err-refs.ensures.given r)))
 
 pub returns-in-Ok-Lost-clause-frees : goal.returns-in-Ok-Lost-clause-frees
 returns-in-Ok-Lost-clause-frees g c r =
@@ -139,8 +148,10 @@ returns-clause-frees g c r =
 
 pub returns-in-Ok-Won-clause-frees : goal.returns-in-Ok-Won-clause-frees
 returns-in-Ok-Won-clause-frees g c r =
-    let means = g.M.Means.means in let m = c.requires.leads in let st = after (record_of m.log) in let p = c.args.proposal in
-    let slots = c.args.shared.now.table.sizes.slots in let change = c.args.change.now in let to = c.place_of-new.result in
+    let means = g.M.Means.means in let m = c.requires.leads in let st = after (record_of m.log) in
+    let p = c.args.proposal in
+    let slots = c.args.shared.now.table.sizes.slots in let change = c.args.change.now in
+    let to = c.place_of-new.result in
     let old = c.args.seat.now in let mid = c.place_draft.new.seat in let new = c.exchange.new.seat in
     let refs = c.in_ok-refs.refs.items in
     let placed : to ≡ placed_ref p.draft.first refs p.at =
@@ -153,7 +164,8 @@ returns-in-Ok-Won-clause-frees g c r =
     (sym placed) spelled in
     let base = spelled-stays old.mark.log mid.mark.log c.place_draft.ensures.seat.later.seen (stamp_of p.base)
     (version_of means st) m.base in
-    let what = subst (FreesWhatIsLeft slots (drawn mid.mark.log) p.base to change c.deref-2.result.now mid.view new.view)
+    let what = subst (FreesWhatIsLeft slots (drawn mid.mark.log) p.base to change c.deref-2.result.now mid.view
+    new.view)
     c.in-Ok-Won.field-0-is (c.in-Ok-Won.ensures.freed r) in
     let d = c.in_ok-refs.ensures.drawn in
     let first = c.place_draft.ensures in let then = c.exchange.ensures in

@@ -22,7 +22,7 @@ loop-tried-preserved g c =
     }
 
 pub returns-in-Some-clause-first : goal.returns-in-Some-clause-first
-returns-in-Some-clause-first g c = starts_earlier g.M.Runs.has c.args.lost c.loop-tried.tried c.args.change.now
+returns-in-Some-clause-first g c = starts_earlier g.M.Has.has c.args.lost c.loop-tried.tried c.args.change.now
     c.in-Some.progress c.loop-tried.auto.tried c.in-Some.ensures.first
 
 pub returns-in-Some-clause-kept : goal.returns-in-Some-clause-kept

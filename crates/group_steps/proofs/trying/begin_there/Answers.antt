@@ -18,7 +18,7 @@ step_on-requires-clause-asks g c κs within =
 
 pub returns-clause-first : goal.returns-clause-first
 returns-clause-first g c =
-    let change = c.args.change.now in let has = g.M.Runs.has in
+    let change = c.args.change.now in let has = g.M.Has.has in
     begins_first has (after (record_of c.args.arrival.now.seen.log)) change c.begin-step.result c.step_on.result
     c.step_on.ensures.passed (subst (λ (q : Place). IfOk c.begin-step.result (IsFirst has (state_at q) change))
     c.new-at.ensures.place c.begin-step.ensures.first)

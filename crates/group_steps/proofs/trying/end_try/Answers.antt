@@ -27,9 +27,9 @@ returns-clause-turn g c =
     let means = g.M.Means.means in let reused = g.S.Slots.reused in let e = c.make_there-tried.ensures in
     let mid = c.args.seat.now in let done = c.make_there-tried.new.seat in let new = c.unpin.new.seat in
     let request = c.args.request.now in let s = after (record_of c.args.arrival.now.seen.log) in
-    subst (λ (t : Turn). IsTurn g.M.Runs.has means reused mid new s request.before.id request.change.now t)
+    subst (λ (t : Turn). IsTurn g.M.Has.has means reused mid new s request.before.id request.change.now t)
     (sym c.turn_of.ensures)
-    (turn_ended g.M.Runs.has means reused mid done new c.args.arrival.now.base s request.before.id request.change.now
+    (turn_ended g.M.Has.has means reused mid done new c.args.arrival.now.base s request.before.id request.change.now
     c.make_there-tried.result c.unpin.ensures.mark
     (λ again. (
       ap (λ (v : View). v.pin) (c.unpin.ensures.view again),
@@ -37,4 +37,5 @@ returns-clause-turn g c =
     )) e.tried)
 
 pub returns-clause-none : goal.returns-clause-none
-returns-clause-none g c = subst (λ (t : Turn). NeedsNone t) (sym c.turn_of.ensures) (needs_none c.make_there-tried.result)
+returns-clause-none g c = subst (λ (t : Turn). NeedsNone t) (sym c.turn_of.ensures)
+    (needs_none c.make_there-tried.result)

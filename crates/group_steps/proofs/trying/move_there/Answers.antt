@@ -52,7 +52,8 @@ returns-in-Ok-Some-clause-frees g c r =
     let may = λ (end : ℕ). end ≡ kind_end sizes c.args.proposal.kind in
     frees_as may (EndsAt sizes s change) 0 0 old new (Some change) (omega arith)
     (λ end is. is ∙ ap (kind_end sizes) c.requires.proposed.1.kind)
-    (subst (λ (o : Option Ref). FreesMove may change old new (Ok o)) c.in-Ok-Some.field-0-is (c.in-Ok-Some.ensures.frees r))
+    (subst (λ (o : Option Ref). FreesMove may change old new (Ok o)) c.in-Ok-Some.field-0-is
+    (c.in-Ok-Some.ensures.frees r))
 
 pub returns-in-Ok-None-clause-frees : goal.returns-in-Ok-None-clause-frees
 returns-in-Ok-None-clause-frees g c r =
@@ -61,7 +62,8 @@ returns-in-Ok-None-clause-frees g c r =
     let may = λ (end : ℕ). end ≡ kind_end sizes c.args.proposal.kind in
     frees_as may (EndsAt sizes s change) 1 1 old new None (omega arith)
     (λ end is. is ∙ ap (kind_end sizes) c.requires.proposed.1.kind)
-    (subst (λ (o : Option Ref). FreesMove may change old new (Ok o)) c.in-Ok-None.field-0-is (c.in-Ok-None.ensures.frees r))
+    (subst (λ (o : Option Ref). FreesMove may change old new (Ok o)) c.in-Ok-None.field-0-is
+    (c.in-Ok-None.ensures.frees r))
 
 pub returns-in-Err-clause-frees : goal.returns-in-Err-clause-frees
 returns-in-Err-clause-frees g c r =

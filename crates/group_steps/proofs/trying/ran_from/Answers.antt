@@ -19,7 +19,8 @@ pub returns-in-Run-clause-next : goal.returns-in-Run-clause-next
 returns-in-Run-clause-next g c = inl (c.in-Run.ensures.turn.0, refl, refl, c.in-Run.ensures.behind)
 
 pub returns-in-Lost-clause-next : goal.returns-in-Lost-clause-next
-returns-in-Lost-clause-next g c = follows_anew g.M.Runs.has g.M.Means.means c.args.seat.now c.ask_from.new.seat c.args.attempt c.args.ran
+returns-in-Lost-clause-next g c = follows_anew g.M.Has.has g.M.Means.means c.args.seat.now c.ask_from.new.seat
+    c.args.attempt c.args.ran
     c.args.change.now c.ask_from.result c.ask_from.ensures.first
 
 pub returns-in-Run-clause-kept : goal.returns-in-Run-clause-kept

@@ -12,7 +12,8 @@ use Rattle.rebase.proofs.seats.seat_all.Goals as goal
 pub loop-mark-preserved : goal.loop-mark-preserved
 loop-mark-preserved g c =
     let i = c.loop-mark.invariant in
-    let m = popped (HasSeat c.args.shared.now.book) c.loop-mark.marks.items c.pop.new.self.items c.pop.result c.in-Some.mark
+    let m = popped (HasSeat c.args.shared.now.book) c.loop-mark.marks.items c.pop.new.self.items c.pop.result
+    c.in-Some.mark
     c.pop.ensures.items c.in-Some.is i.marks in
     let s = popped (λ seat. (g.S.Slots.home seat ≡ c.args.shared.now.table)
     × (g.S.Slots.reused → IsIdle (g.S.Slots.view seat))) c.loop-mark.claimed.items c.pop-in-Some.new.self.items

@@ -36,7 +36,8 @@ loop-mutation-preserved g c =
     let contents = with_nodes g.K.NamesContents.known c.args.draft.now.nodes in
     let now : Entries → Entries = λ m. replayed means m (take k xs) in
     let may : (m : Entries) → map_at contents (stamp_of c.args.root) ≡ Some m
-    → MayReplay contents (g.M.Runs.has x.name) means (now m) x (replay.Ran c.in-Ran.left) = λ m h. subst (λ (w : Replayed). MayReplay contents (g.M.Runs.has x.name) means (now m) x w) c.in-Ran.is
+    → MayReplay contents (g.M.Has.has x.name) means (now m) x (replay.Ran c.in-Ran.left) = λ m h. subst
+    (λ (w : Replayed). MayReplay contents (g.M.Has.has x.name) means (now m) x w) c.in-Ran.is
     (c.in_ok-left.ensures.left (now m) (v.tree m h)) in
     record {
       tree = λ m h. (may m h).1 ∙ ap (λ (r : Entries). Some r)

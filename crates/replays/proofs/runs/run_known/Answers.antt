@@ -20,7 +20,8 @@ returns-in-Some-clause-ran g c =
       (
         m,
         c.tree_of-tree.ensures,
-        subst (λ (t : Tree). RunsAs (meaning_of means x (shown_map known t)) c.in-Some.ran m) c.new-view.ensures.tree ran,
+        subst (λ (t : Tree). RunsAs (meaning_of means x (shown_map known t)) c.in-Some.ran m) c.new-view.ensures.tree
+            ran,
       ),
     )
 

@@ -45,7 +45,8 @@ returns-clause-needed c =
     let first = ap (λ (d : Drafted). d.first) c.in_ok-head.ensures.ok
     ∙ (ap (λ (d : Drafted). d.first) c.in_ok-root.ensures.ok ∙ ap (λ (d : Drafted). d.first) c.requires) in
     subst (λ n. AreNeeded n two.nodes (c.in_ok-head.head ∷ [])) first
-    (needed_begun [] c.in_ok-head.head 0 none two c.requires (adds_over (c.in_ok-root.root ∷ []) none one two (node.Commit (record {
+    (needed_begun [] c.in_ok-head.head 0 none two c.requires (adds_over (c.in_ok-root.root ∷ []) none one two
+    (node.Commit (record {
       root = c.in_ok-root.root;
       kind = Snapshot (record { cookie = c.in_ok-cookie.cookie; confirmed = c.in_ok-confirmed.confirmed });
     })) c.in_ok-head.head (λ r i. i) root c.in_ok-head.ensures.stamp.0 c.in_ok-head.ensures.ok))

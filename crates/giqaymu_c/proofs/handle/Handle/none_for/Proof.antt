@@ -23,7 +23,7 @@ use Rattle.core.proofs.alloc.Calls.{handle_tells}
 use Rattle.std.proofs.raw_atomic.Walks.{proved_at, leaves}
 use Rattle.giqaymu_c.specs.Owned.{place_owns}
 use Rattle.giqaymu_c.proofs.Values.{marked, handle_in, handle_good, opaque}
-use Rattle.giqaymu_c.specs.Jobs.{text_for}
+use Rattle.giqaymu_c.specs.Jobs.{asks_for, text_for}
 use Rattle.giqaymu_c.specs.contracts.jobs.Job as Job
 use Rattle.giqaymu_c.proofs.jobs.Job.TheLaws as job
 use Rattle.giqaymu_c.specs.contracts.handle.Handle as handle
@@ -62,10 +62,11 @@ none_for_spec 𝓤 𝓛 𝓜 𝓡 wired =
     returns ! (look_at ! 0 refl) $ free_all ! refl $ keep ! (0 ∷ 1 ∷ []) $
     let own = y.now.own in
     let made : (handle.the_row).Denot =
-    record { at = null_ptr; is_open = 0; text = text_for x; own = own; spot = None } in
-    let Made : Type 0 = (made.spot ≡ None) × (made.text ≡ text_for x) × (made.own ≡ own) in
-    use1 𝓛 (‵ (place_owns (text_for x) own 0 null_ptr None)) (id⊢ 𝓤 _) $
-    handle_in ! null_ptr 0 (text_for x) own None (lit< tt) $
-    use0 𝓛 (raw (fact 𝓤 Made)) (fact_i 𝓤 Made (emp 𝓤) (refl, refl, refl)) $
+    record { at = null_ptr; is_open = 0; text = text_for x; asks = asks_for x; own = own; spot = None } in
+    let Made : Type 0 = (made.spot ≡ None) × (made.text ≡ text_for x) × (made.asks ≡ asks_for x)
+    × (made.own ≡ own) in
+    use1 𝓛 (‵ (place_owns (text_for x) (asks_for x) own 0 null_ptr None)) (id⊢ 𝓤 _) $
+    handle_in ! null_ptr 0 (text_for x) (asks_for x) own None (lit< tt) $
+    use0 𝓛 (raw (fact 𝓤 Made)) (fact_i 𝓤 Made (emp 𝓤) (refl, refl, refl, refl)) $
     nothing ! $ nothing ! $ nothing ! $ fjoin ! $ move ! (1 ∷ 0 ∷ []) $ fjoin ! $ move ! (3 ∷ 0 ∷ 2 ∷ 1 ∷ []) $
     by ! (leaves 𝓛 En hs c z (marked null_ptr 0) made (tt, (tt, tt)) (tt, (tt, tt)))))))

@@ -1,5 +1,7 @@
-use Rattle.std.proofs.Common.{rules}
+use denote.Exit.{no}
+use denote.Param.Send.{arg_sync, param_sync}
+use Rattle.host_places.proofs.Sharing.{mutators_sync}
 use Rattle.giqaymu_c.proofs.spots.Spot.open.Goals as goal
 
-pub returns-in-1-clause-opened : goal.returns-in-1-clause-opened
-returns-in-1-clause-opened g c = search rules
+pub open_places-requires-sync-M : goal.open_places-requires-sync-M
+open_places-requires-sync-M g c κs within = param_sync _ _ (arg_sync _ no _ (mutators_sync _ _))

@@ -1,10 +1,10 @@
-use Rattle.std.proofs.Common.{false}
 use Rattle.host_places.specs.Told.{told}
-use Rattle.host_places.proofs.Calm.{calm_told}
+use Rattle.host_places.proofs.Calm.{calm_told, none_asked}
 use Rattle.host_places.proofs.place.Place.call.Goals as goal
 
 pub returns-in_default : goal.returns-in_default
 returns-in_default g c =
-    calm_told false g.M.Means.means c.args.asked c.args.self.now
-    (told c.call_calm.result c.call_calm.new.bytes.items) c.call_calm.new.self c.never_asks.ensures
+    calm_told g.M.Hosted.had g.M.Means.means c.args.asked c.args.self.now
+    (told c.call_calm.result c.call_calm.new.bytes.items) c.call_calm.new.self
+    (none_asked c.args.self.now.asking c.is_asking.result c.is_asking.ensures c.if-is_asking.false)
     c.in_default.not-Mutate c.in_default.not-End c.call_calm.ensures

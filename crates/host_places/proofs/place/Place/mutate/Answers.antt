@@ -1,11 +1,40 @@
-use Rattle.std.proofs.Common.{inr, refl}
-use Rattle.host_places.proofs.Telling.{by_ok, mutated}
+use Rattle.std.proofs.Common.{inr}
+use Rattle.std.specs.Prelude.{⊤}
+use Rattle.group_steps.specs.Missing.{map_ok}
+use Rattle.rebase.specs.Replies.{reply_seen}
+use Rattle.rebase.specs.Running.{EndsCall, IsAsked, IsFirst, IsUnwritten}
+use Rattle.host_places.specs.Answers.{tries}
+use Rattle.host_places.specs.Drafts.{AsksToMutate, mutation_of}
+use Rattle.host_places.specs.Told.{told_alone}
+use Rattle.host_places.proofs.Asking.{step_at, stood, tells_all, told_by}
+use Rattle.host_places.proofs.Moving.{by_client}
+use Rattle.host_places.proofs.Telling.{by_ok}
 use Rattle.host_places.proofs.place.Place.mutate.Goals as goal
 
-pub returns : goal.returns
-returns g c =
-    let here = rw c.in-Client.is at c.self.view_is in let e = c.try_mutate.ensures in
-    inr (by_ok _ _ c.in-Ok.said _ _ _ c.in-Ok.ensures
-    (mutated g.M.Means.means _ c.args.self.now c.in-Client.client c.try_mutate.new.self c.in-Ok.said.0 c.in-Ok.said.1
-    c.args.named.time c.try_mutate.result c.id_outcome.result here refl e.answer e.last e.left e.acts
-    e.cause (e.frees tt) c.id_outcome.ensures))
+pub go_on-requires-clause-step : goal.go_on-requires-clause-step
+go_on-requires-clause-step g c κs within =
+    let laws = g.met.M.HostRuns g.world.𝓛 g.world.𝓜 g.world.𝓡 ((λ s x. x), (λ x. x), (λ x. x), (λ x. x)) in
+    let has = g.M.Hosted.had in let means = g.M.Means.means in let client = c.in-Client.client in
+    let said = c.in-Ok.said in let change = mutation_of client said.0 said.1 c.args.named.time in
+    step_at has means c.take.new.self.group client c.ask_mutate-step.result (IsAsked means ⊤ tries client change)
+    (λ next reply. EndsCall means ⊤ tries client next change (map_ok reply_seen reply)) c.in-Client.ensures.fits.1
+    (λ a is. is.began) (λ next reply ends. ends.acts) c.ask_mutate-step.ensures.told
+    (told_by c.ask_mutate-step.result (λ h. IsUnwritten h) _ has laws.same c.ask_mutate-step.ensures.fresh)
+
+pub returns-in-Client : goal.returns-in-Client
+returns-in-Client g c =
+    let laws = g.met.M.HostRuns g.world.𝓛 g.world.𝓜 g.world.𝓡 ((λ s x. x), (λ x. x), (λ x. x), (λ x. x)) in
+    let has = g.M.Hosted.had in let means = g.M.Means.means in let client = c.in-Client.client in
+    let said = c.in-Ok.said in let change = mutation_of client said.0 said.1 c.args.named.time in
+    let taken = c.in-Client.ensures in
+    let t = told_alone c.go_on.result in let step = c.ask_mutate-step in
+    inr (by_ok _ _ said _ _ _ c.in-Ok.ensures
+    (by_client (λ b. AsksToMutate has means b said.0 said.1 c.args.named.time) client c.args.self.now c.go_on.new.self t
+    taken.client
+    (stood step.result (λ a. IsAsked means ⊤ tries client change a × IsFirst has a × IsUnwritten has a)
+    (λ next reply. EndsCall means ⊤ tries client next change reply) c.args.self.now c.take.new.self c.go_on.new.self t
+    taken.seat taken.left
+    (tells_all step.result (IsAsked means ⊤ tries client change) (IsFirst has) (IsUnwritten has)
+    (λ next reply. EndsCall means ⊤ tries client next change (map_ok reply_seen reply)) step.ensures.told
+    (told_by step.result (λ h. IsFirst h) _ has laws.same step.ensures.first)
+    (told_by step.result (λ h. IsUnwritten h) _ has laws.same step.ensures.fresh)) c.go_on.ensures)))

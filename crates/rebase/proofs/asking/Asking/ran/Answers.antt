@@ -20,7 +20,7 @@ invariant_of-client g c =
     let k = c.client.inside in let e = c.ran_from-progress.ensures in let new = c.ran_from-progress.new.seat in (
       keeps_found reused _ k.seat new k.id k.last k.found k.latest c.ran_from-progress.new.found c.self.inside.change
           (subst (λ (w : ClientState). AsksNext w.id w.last c.self.inside.change) (sym c.client.view_is)
-          c.self.invariant.2) e.kept e.seat (progress_none g.M.Runs.has means reused c.deref.result.now.shared new
+          c.self.invariant.2) e.kept e.seat (progress_none g.M.Has.has means reused c.deref.result.now.shared new
           c.self.inside.tries k.last c.self.inside.change c.ran_from-progress.result e.stands)
           c.client.invariant.0,
       λ r no. absurd (cc no),
@@ -57,7 +57,9 @@ returns-clause-next g c =
       id = k.id;
       last = k.last;
     } in
-    subst (λ (w : UnderWay). Tells c.go_on.result (Follows g.M.Runs.has g.M.Means.means w c.args.ran) (λ client reply. Unit {0})) c.self.view_is
-    (next_shown g.M.Runs.has g.M.Means.means a.client client a.change a.tries a.attempt c.args.ran p c.go_on.result c.go_on.ensures.shown
-    (subst (λ (w : Seated). FollowsRun g.M.Runs.has g.M.Means.means w new a.attempt c.args.ran a.change p)
+    subst (λ (w : UnderWay). Tells c.go_on.result (Follows g.M.Has.has g.M.Means.means w c.args.ran)
+    (λ client reply. Unit {0})) c.self.view_is
+    (next_shown g.M.Has.has g.M.Means.means a.client client a.change a.tries a.attempt c.args.ran p c.go_on.result
+    c.go_on.ensures.shown
+    (subst (λ (w : Seated). FollowsRun g.M.Has.has g.M.Means.means w new a.attempt c.args.ran a.change p)
     (ap (λ (w : ClientState). w.seat) c.client.view_is) c.ran_from-progress.ensures.next))

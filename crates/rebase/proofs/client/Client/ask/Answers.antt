@@ -14,8 +14,9 @@ invariant_of-client g c =
     let means = g.M.Means.means in let reused = g.S.Slots.reused in
     let k = c.client.inside in let e = c.ask_from-progress.ensures in let new = c.ask_from-progress.new.seat in (
       keeps_found reused _ k.seat new k.id k.last k.found k.latest c.ask_from-progress.new.found c.args.change
-          (subst (λ (w : ClientState). AsksNext w.id w.last c.args.change) (sym c.client.view_is) c.requires.next) e.kept
-          e.seat (progress_none g.M.Runs.has means reused c.deref.result.now.shared new c.args.tries
+          (subst (λ (w : ClientState). AsksNext w.id w.last c.args.change) (sym c.client.view_is) c.requires.next)
+          e.kept
+          e.seat (progress_none g.M.Has.has means reused c.deref.result.now.shared new c.args.tries
           k.last c.args.change c.ask_from-progress.result e.stands) c.client.invariant.0,
       λ r no. absurd (cc no),
     )
@@ -44,5 +45,6 @@ returns-clause-first g c =
       id = k.id;
       last = k.last;
     } in
-    first_shown g.M.Runs.has client c.args.change c.args.tries 0 c.ask_from-progress.result c.go_on.result c.go_on.ensures.shown
+    first_shown g.M.Has.has client c.args.change c.args.tries 0 c.ask_from-progress.result c.go_on.result
+    c.go_on.ensures.shown
     c.ask_from-progress.ensures.first

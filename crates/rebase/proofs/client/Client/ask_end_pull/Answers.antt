@@ -6,7 +6,8 @@ use Rattle.rebase.proofs.client.Client.ask_end_pull.Goals as goal
 pub returns-in-Ok-Ok-clause-told : goal.returns-in-Ok-Ok-clause-told
 returns-in-Ok-Ok-clause-told g c =
     pulled_told_as g.M.Means.means g.S.Slots.reused c.args.tries c.args.self c.args.ticket.now.cookie c.in-Ok-Ok.pull
-    c.args.body.now c.ask_pulled.result (c.in-Ok-Ok.ensures.read ∙ ap Ok c.in-Ok-Ok.field-0-is) c.ask_pulled.ensures.told
+    c.args.body.now c.ask_pulled.result (c.in-Ok-Ok.ensures.read ∙ ap Ok c.in-Ok-Ok.field-0-is)
+    c.ask_pulled.ensures.told
 
 pub returns-in-Ok-StateNotFound-clause-told : goal.returns-in-Ok-StateNotFound-clause-told
 returns-in-Ok-StateNotFound-clause-told g c =
@@ -27,17 +28,18 @@ returns-in-Err-clause-told g c =
     c.refuse_asked.ensures.told
 
 pub returns-in-Ok-VersionNotSupported-clause-first : goal.returns-in-Ok-VersionNotSupported-clause-first
-returns-in-Ok-VersionNotSupported-clause-first g c = tells_none c.ask_unsupported.result (IsFirst g.M.Runs.has) _
+returns-in-Ok-VersionNotSupported-clause-first g c = tells_none c.ask_unsupported.result (IsFirst g.M.Has.has) _
     (c.ask_unsupported.ensures.told c.args.ticket.now.cookie c.args.body.now
     (c.in-Ok-VersionNotSupported.ensures.read ∙ ap Ok c.in-Ok-VersionNotSupported.field-0-is))
 
 pub returns-in-Err-clause-first : goal.returns-in-Err-clause-first
-returns-in-Err-clause-first g c = tells_none c.refuse_asked.result (IsFirst g.M.Runs.has) _ c.refuse_asked.ensures.told
+returns-in-Err-clause-first g c = tells_none c.refuse_asked.result (IsFirst g.M.Has.has) _ c.refuse_asked.ensures.told
 
 pub returns-in-Ok-VersionNotSupported-clause-fresh : goal.returns-in-Ok-VersionNotSupported-clause-fresh
-returns-in-Ok-VersionNotSupported-clause-fresh g c = tells_none c.ask_unsupported.result (IsUnwritten g.M.Runs.has) _
+returns-in-Ok-VersionNotSupported-clause-fresh g c = tells_none c.ask_unsupported.result (IsUnwritten g.M.Has.has) _
     (c.ask_unsupported.ensures.told c.args.ticket.now.cookie c.args.body.now
     (c.in-Ok-VersionNotSupported.ensures.read ∙ ap Ok c.in-Ok-VersionNotSupported.field-0-is))
 
 pub returns-in-Err-clause-fresh : goal.returns-in-Err-clause-fresh
-returns-in-Err-clause-fresh g c = tells_none c.refuse_asked.result (IsUnwritten g.M.Runs.has) _ c.refuse_asked.ensures.told
+returns-in-Err-clause-fresh g c = tells_none c.refuse_asked.result (IsUnwritten g.M.Has.has) _
+    c.refuse_asked.ensures.told

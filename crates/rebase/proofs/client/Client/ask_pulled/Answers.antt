@@ -13,7 +13,8 @@ returns-in-Err-clause-told g c =
     c.refuse_asked.ensures.told
 
 pub returns-in-Err-clause-first : goal.returns-in-Err-clause-first
-returns-in-Err-clause-first g c = tells_none c.refuse_asked.result (IsFirst g.M.Runs.has) _ c.refuse_asked.ensures.told
+returns-in-Err-clause-first g c = tells_none c.refuse_asked.result (IsFirst g.M.Has.has) _ c.refuse_asked.ensures.told
 
 pub returns-in-Err-clause-fresh : goal.returns-in-Err-clause-fresh
-returns-in-Err-clause-fresh g c = tells_none c.refuse_asked.result (IsUnwritten g.M.Runs.has) _ c.refuse_asked.ensures.told
+returns-in-Err-clause-fresh g c = tells_none c.refuse_asked.result (IsUnwritten g.M.Has.has) _
+    c.refuse_asked.ensures.told

@@ -38,12 +38,15 @@ returns-in-EndPull-clause-answer g c =
 
 pub returns-in-Mutate-clause-frees : goal.returns-in-Mutate-clause-frees
 returns-in-Mutate-clause-frees g c changing r =
-    let old = c.args.self.now in let new = c.try_mutate.new.self in let x = asked_mutation (caller_of old) c.in-Mutate.m in
-    let told = mapped reply.Id id c.try_mutate.result c.map-in-Mutate.result (λ n. refl) c.map-in-Mutate.ensures.cases in
+    let old = c.args.self.now in let new = c.try_mutate.new.self in let x = asked_mutation
+    (caller_of old) c.in-Mutate.m in
+    let told = mapped reply.Id id c.try_mutate.result c.map-in-Mutate.result
+    (λ n. refl) c.map-in-Mutate.ensures.cases in
     subst (λ n. Frees (change_for (caller_of old) c.args.call) n old.seat new.seat
     (change_of (caller_of old) c.args.call (map_ok reply_seen c.map-in-Mutate.result)))
     (spared_told reply_seen c.map-in-Mutate.result)
-    (subst (λ (z : Call). Frees (change_for (caller_of old) z) (spared (map_ok reply_seen c.map-in-Mutate.result)) old.seat
+    (subst (λ (z : Call). Frees (change_for (caller_of old) z) (spared (map_ok reply_seen c.map-in-Mutate.result))
+    old.seat
     new.seat (change_of (caller_of old) z (map_ok reply_seen c.map-in-Mutate.result))) (sym c.in-Mutate.is)
     (frees_told id (Some (Mutated x)) old.seat new.seat c.try_mutate.result (map_ok reply_seen c.map-in-Mutate.result)
     (change_made x c.try_mutate.result) (change_made x (map_ok id_in (map_ok reply_seen c.map-in-Mutate.result))) told
@@ -58,7 +61,8 @@ returns-in-EndPull-clause-frees g c changing r =
     subst (λ n. Frees (change_for (caller_of old) c.args.call) n old.seat new.seat
     (change_of (caller_of old) c.args.call (map_ok reply_seen c.map-in-EndPull.result)))
     (spared_told reply_seen c.map-in-EndPull.result)
-    (subst (λ (z : Call). Frees (change_for (caller_of old) z) (spared (map_ok reply_seen c.map-in-EndPull.result)) old.seat
+    (subst (λ (z : Call). Frees (change_for (caller_of old) z) (spared (map_ok reply_seen c.map-in-EndPull.result))
+    old.seat
     new.seat (change_of (caller_of old) z (map_ok reply_seen c.map-in-EndPull.result))) (sym c.in-EndPull.is)
     (frees_told ended (change_wanted k a) old.seat new.seat c.try_end_pull.result
     (map_ok reply_seen c.map-in-EndPull.result) (change_read k a c.try_end_pull.result)

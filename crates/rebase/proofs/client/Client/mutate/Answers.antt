@@ -30,8 +30,10 @@ returns-then-not-is_passing-clause-answer g c =
     let last = subst (λ (n : ℕ). IsLinearized means 1000 mid.seat.mark new.seat.mark reply
     (change_made (made old.id (n + 1) name args time))
     (λ s. mutate_reply means s n (made old.id (n + 1) name args time))) i.last id in
-    begun_anew means 1000 0 old.seat.mark mid.seat.mark new.seat.mark reply (change_made (made old.id (old.last + 1) name args time))
-    (λ s. mutate_reply means s old.last (made old.id (old.last + 1) name args time)) i.seat.later.seen i.seat.later.seat i.own lasts last
+    begun_anew means 1000 0 old.seat.mark mid.seat.mark new.seat.mark reply
+    (change_made (made old.id (old.last + 1) name args time))
+    (λ s. mutate_reply means s old.last (made old.id (old.last + 1) name args time)) i.seat.later.seen i.seat.later.seat
+    i.own lasts last
 
 pub returns-then-not-is_passing-clause-last : goal.returns-then-not-is_passing-clause-last
 returns-then-not-is_passing-clause-last g c = subst (λ (n : ℕ). IfOk c.try_mutate-reply.result
@@ -56,10 +58,12 @@ loop-turn-preserved g c =
       seat = seat-trans old.seat mid.seat new.seat i.seat e.acts.seat;
       own = left_alone g.M.Means.means 1000 mid.seat.mark new.seat.mark c.try_mutate-reply.result (change_made x)
           (λ s. mutate_reply g.M.Means.means s mid.last x) passes (λ _ _. refl) e.answer ∙ i.own;
-      gave = λ r. frees_anew (Some (Mutated y)) (spared c.try_mutate-reply.result) old.seat mid.seat new.seat None i.seat
+      gave = λ r. frees_anew (Some (Mutated y)) (spared c.try_mutate-reply.result) old.seat mid.seat new.seat None
+          i.seat
           e.acts.seat (i.gave r) (subst (λ (z : Mutation). Frees (Some (Mutated z)) (spared c.try_mutate-reply.result)
           mid.seat new.seat None) same
-          (subst (λ (o : Option Change). Frees (Some (Mutated x)) (spared c.try_mutate-reply.result) mid.seat new.seat o)
+          (subst (λ (o : Option Change). Frees (Some (Mutated x)) (spared c.try_mutate-reply.result) mid.seat new.seat
+          o)
           (passing_changes c.try_mutate-reply.result (change_made x) passes (λ _ _. refl)) (e.frees r)));
     }
 

@@ -31,7 +31,8 @@ returns-in-Err-clause-answer g c =
 pub returns-in-StateNotFound-clause-answer : goal.returns-in-StateNotFound-clause-answer
 returns-in-StateNotFound-clause-answer g c =
     let k = c.args.ticket.now.cookie in
-    let read : answer_to c.args.body.now ≡ Ok response.StateNotFound = c.in-Ok.ensures.read ∙ ap Ok c.in-StateNotFound.is in
+    let read : answer_to c.args.body.now ≡ Ok response.StateNotFound = c.in-Ok.ensures.read
+    ∙ ap Ok c.in-StateNotFound.is in
     subst (λ (a : Result Response Refusal). IsLinearized g.M.Means.means c.args.tries c.args.self.now.seat.mark
     c.end_unknown.new.self.seat.mark c.end_unknown.result (λ (reply : Result Ended Refusal). change_read k a reply)
     (λ s. a >>= end_reply s k.text))

@@ -39,7 +39,8 @@ pub returns-clause-frees : goal.returns-clause-frees
 returns-clause-frees g c r =
     let old = c.args.self.now in let mid = c.change-made.new.self in let given = c.change-made.result in
     let x = made old.id (old.last + 1) c.args.name.now c.args.args.now c.args.time in
-    let named = c.in-Ok.ensures ∙ ap (λ (t : ClientState). made t.id (t.last + 1) c.args.name.now c.args.args.now c.args.time)
+    let named = c.in-Ok.ensures ∙ ap (λ (t : ClientState). made t.id (t.last + 1) c.args.name.now c.args.args.now
+    c.args.time)
     c.self.view_is in
     let frees = subst (λ (y : Mutation). Frees (Some (Mutated y)) (spared given) old.seat mid.seat
     (change_made y (map_ok (λ (at : Option Ref). old.last + 1) given))) named

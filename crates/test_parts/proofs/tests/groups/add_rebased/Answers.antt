@@ -1,13 +1,25 @@
-use Rattle.std.proofs.Common.{List, false, map, refl, ap, ◌∙◌}
+use Rattle.std.proofs.Common.{◌≡◌, ℕ, List, [], Option, Some, map, refl, sym, ap, subst, ◌∙◌}
+use Rattle.std.specs.Prelude.{IfSome, IsSome}
 use Rattle.group_history.specs.declared.nodes.Node.{Node}
 use Rattle.group_history.specs.declared.refs.Ref.{Ref}
+use Rattle.group_history.specs.Map.{Entries, patched}
 use Rattle.group_history.specs.Naming.{content_of}
 use Rattle.group_history.specs.Refs.{stamp_of}
 use Rattle.group_history.specs.Spelling.{Contents, map_at, version_at}
-use Rattle.group_history.specs.State.{State, state}
+use Rattle.group_history.specs.State.{pulled_state, replayed}
 use Rattle.map_chunks.proofs.Shelves.{some_of}
+use Rattle.map_chunks.specs.Drafts.{Drafted}
+use Rattle.map_chunks.specs.Places.{with_nodes}
+use Rattle.map_tree.specs.Trees.{tree_map}
+use Rattle.map_tree.specs.declared.tree.Tree.{Tree}
+use Rattle.script_mutators.specs.Mutators.{script_means}
 use Rattle.test_parts.proofs.PlacedLemmas.{bare, stays, placed}
 use Rattle.test_parts.proofs.tests.groups.add_rebased.Goals as goal
+
+-- what is there at a stamp of the nodes at hand, when a draft was begun
+found : (contents : Contents) (d : Drafted) (first k : ℕ) (m : Entries) → d ≡ record { first = first; nodes = [] }
+    → map_at contents k ≡ Some m → map_at (with_nodes contents d.nodes) k ≡ Some m
+found contents d first k m begun is = ap (λ (w : Contents). map_at w k) (bare contents d first begun) ∙ is
 
 pub base_at-requires-clause-tip : goal.base_at-requires-clause-tip
 base_at-requires-clause-tip c =
@@ -18,21 +30,64 @@ base_at-requires-clause-tip c =
           c.shelf-shelf.ensures ∙ v.1),
     )
 
+pub add_patched-requires-clause-map : goal.add_patched-requires-clause-map
+add_patched-requires-clause-map c =
+    let v = some_of (version_at (map content_of c.args.nodes.now) (stamp_of c.args.head)) c.requires in
+    let tip = c.in_ok-look.ensures.tip v.0
+    (ap (λ (ns : List (Node Ref)). version_at (map content_of ns) (stamp_of c.args.head))
+    c.shelf-shelf.ensures ∙ v.1) in
+    subst IsSome (sym (found (map content_of c.shelf-shelf.result.nodes.now) c.draft-draft.result _
+    (stamp_of c.in_ok-base.base.pulled) v.0.state.pulled c.draft-draft.ensures (c.in_ok-base.ensures.base v.0 tip).2))
+    refl
+
+pub run_pending-requires-clause-map : goal.run_pending-requires-clause-map
+run_pending-requires-clause-map c κs within =
+    let v = some_of (version_at (map content_of c.args.nodes.now) (stamp_of c.args.head)) c.requires in
+    let tip = c.in_ok-look.ensures.tip v.0
+    (ap (λ (ns : List (Node Ref)). version_at (map content_of ns) (stamp_of c.args.head))
+    c.shelf-shelf.ensures ∙ v.1) in
+    let there = found (map content_of c.shelf-shelf.result.nodes.now) c.draft-draft.result _
+    (stamp_of c.in_ok-base.base.pulled) v.0.state.pulled c.draft-draft.ensures
+    (c.in_ok-base.ensures.base v.0 tip).2 in
+    (patched v.0.state.pulled c.args.pull.now.patch, (c.in_ok-basis.ensures.tip v.0.state.pulled there).1)
+
+pub add_replayed-requires-clause-tip : goal.add_replayed-requires-clause-tip
+add_replayed-requires-clause-tip c =
+    let v = some_of (version_at (map content_of c.args.nodes.now) (stamp_of c.args.head)) c.requires in
+    let tip = c.in_ok-look.ensures.tip v.0
+    (ap (λ (ns : List (Node Ref)). version_at (map content_of ns) (stamp_of c.args.head))
+    c.shelf-shelf.ensures ∙ v.1) in
+    let contents = map content_of c.shelf-shelf.result.nodes.now in
+    let there = found contents c.draft-draft.result _ (stamp_of c.in_ok-base.base.pulled) v.0.state.pulled
+    c.draft-draft.ensures (c.in_ok-base.ensures.base v.0 tip).2 in
+    let m = patched v.0.state.pulled c.args.pull.now.patch in
+    let basis = c.in_ok-basis.ensures.tip v.0.state.pulled there in (
+      pulled_state m c.args.pull.now.cookie c.in_ok-confirmed.confirmed,
+      basis,
+      refl,
+      subst (λ (o : Option Tree). IfSome o (λ (tree : Tree).
+          tree_map (with_nodes contents c.add_patched.new.draft.nodes) tree
+          ≡ Some (replayed script_means m c.as_slice-left.result.now))) c.in-Some.is (c.in_ok-found.ensures.left m basis.1),
+    )
+
 pub returns-clause-old : goal.returns-clause-old
-returns-clause-old c = stays c.args.nodes.now c.draft_rebase.new.draft.nodes c.append.new.self
+returns-clause-old c = stays c.args.nodes.now c.add_replayed.new.draft.nodes c.append.new.self
     (stamp_of c.args.head) c.in_ok-append.ensures.ok c.requires
 
 pub returns-clause-new : goal.returns-clause-new
 returns-clause-new c =
-    let nodes = c.args.nodes.now in let shown = c.shelf-shelf.result.nodes.now in let contents = map content_of shown in
-    let v = some_of (version_at (map content_of nodes) (stamp_of c.args.head)) c.requires in
+    let v = some_of (version_at (map content_of c.args.nodes.now) (stamp_of c.args.head)) c.requires in
     let tip = c.in_ok-look.ensures.tip v.0
     (ap (λ (ns : List (Node Ref)). version_at (map content_of ns) (stamp_of c.args.head))
     c.shelf-shelf.ensures ∙ v.1) in
-    let base = c.in_ok-base.ensures.base v.0 tip in
-    let there = ap (λ (w : Contents). map_at w (stamp_of c.in_ok-base.base.pulled))
-    (bare contents c.draft-draft.result _ c.draft-draft.ensures) ∙ base.2 in
-    let s : State = state v.0.state.pulled v.0.state.cookie c.in_ok-base.base.confirmed c.args.pending.now false in
-    placed shown nodes c.draft_rebase.new.draft.nodes c.append.new.self
-    (stamp_of c.in_ok-made.made.commit) _ c.shelf-shelf.ensures c.in_ok-append.ensures.ok
-    (c.in_ok-made.ensures.spelled s there refl refl refl)
+    let contents = map content_of c.shelf-shelf.result.nodes.now in
+    let there = found contents c.draft-draft.result _ (stamp_of c.in_ok-base.base.pulled) v.0.state.pulled
+    c.draft-draft.ensures (c.in_ok-base.ensures.base v.0 tip).2 in
+    let m = patched v.0.state.pulled c.args.pull.now.patch in
+    let basis = c.in_ok-basis.ensures.tip v.0.state.pulled there in
+    let left = subst (λ (o : Option Tree). IfSome o (λ (tree : Tree).
+    tree_map (with_nodes contents c.add_patched.new.draft.nodes) tree
+    ≡ Some (replayed script_means m c.as_slice-left.result.now))) c.in-Some.is (c.in_ok-found.ensures.left m basis.1) in
+    placed c.shelf-shelf.result.nodes.now c.args.nodes.now c.add_replayed.new.draft.nodes c.append.new.self
+    (stamp_of c.in_ok-tip.tip.commit) _ c.shelf-shelf.ensures c.in_ok-append.ensures.ok
+    (c.in_ok-tip.ensures.tip (pulled_state m c.args.pull.now.cookie c.in_ok-confirmed.confirmed) basis refl left).0

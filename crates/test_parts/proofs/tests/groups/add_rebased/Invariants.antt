@@ -9,5 +9,11 @@ ghosts-look_at a = record { known = map content_of a.nodes.nodes.now }
 abbrev pub ghosts-base_at : goal.ghosts-base_at
 ghosts-base_at a = record { known = map content_of a.nodes.nodes.now }
 
-abbrev pub ghosts-draft_rebase : goal.ghosts-draft_rebase
-ghosts-draft_rebase a = record { known = map content_of a.setting.now.chunks.nodes.now }
+abbrev pub ghosts-add_patched : goal.ghosts-add_patched
+ghosts-add_patched a = record { known = map content_of a.setting.now.chunks.nodes.now }
+
+abbrev pub ghosts-run_pending : goal.ghosts-run_pending
+ghosts-run_pending a = record { known = map content_of a.setting.now.chunks.nodes.now }
+
+abbrev pub ghosts-add_replayed : goal.ghosts-add_replayed
+ghosts-add_replayed a = record { known = map content_of a.setting.now.chunks.nodes.now }

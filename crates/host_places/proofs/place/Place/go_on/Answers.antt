@@ -1,5 +1,5 @@
 use Rattle.std.proofs.Common.{refl}
-use Rattle.host_places.proofs.own.Place+OwnMutators+B.go_on.Goals as goal
+use Rattle.host_places.proofs.place.Place.go_on.Goals as goal
 
 pub returns-in-Run : goal.returns-in-Run
 returns-in-Run g c = rw c.in-Run.is (refl, c.put.ensures)

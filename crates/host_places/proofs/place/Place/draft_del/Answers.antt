@@ -2,9 +2,9 @@ use Rattle.std.proofs.Common.{refl, sym}
 use Rattle.std.specs.FinMap as finite
 use Rattle.group_history.specs.Map.{Entries}
 use Rattle.host_places.specs.Told.{told_alone}
-use Rattle.host_places.proofs.Asking.{begun_written, written_told}
+use Rattle.host_places.proofs.Asking.{asked_written, written_told}
 use Rattle.host_places.proofs.Telling.{by_ok}
-use Rattle.host_places.proofs.own.Place+OwnMutators+B.draft_del.Goals as goal
+use Rattle.host_places.proofs.place.Place.draft_del.Goals as goal
 
 pub invariant_of-self-2 : goal.invariant_of-self-2
 invariant_of-self-2 g c =
@@ -12,11 +12,8 @@ invariant_of-self-2 g c =
     let change : Entries → Entries = λ m. finite.remove m c.in-Ok.key.now in (
       tt,
       tt,
-      (
-        refl,
-        begun_written g.B.PickedMeaning.meaning _ change c.in-Asking.asking c.del_drafted.new.asking
-            (told_alone c.del_drafted.result) c.del_drafted.ensures was.2.1,
-      ),
+      asked_written g.M.Hosted.had g.M.Means.means _ change c.in-Asking.asking c.del_drafted.new.asking
+          (told_alone c.del_drafted.result) c.del_drafted.ensures was.2,
       c.self.invariant.3,
     )
 
