@@ -1,6 +1,6 @@
 -- Who is taken from a place and put there.
 use Rattle.std.proofs.Common.{◌≡◌, ℕ, List, Option, Some, None, refl, sym, ap, ◌∙◌, subst}
-use Rattle.std.specs.Prelude.{⊤, Bool, true, false}
+use Rattle.std.specs.Prelude.{⊤, Bool}
 use Rattle.std.proofs.Math.Logic.{∥∥₁_elim}
 use Rattle.std.specs.Coded.{Coded-set, codes}
 use Rattle.group_history.specs.Map.{Bytes}

@@ -1,5 +1,5 @@
 //! Changes of a place. One asks its host for each run of a mutator that the group hasn't, and has its client meanwhile.
-ghost use Rattle.std.specs.Prelude.{◌≡◌, ◌⊎◌, [], true, is_some};
+ghost use Rattle.std.specs.Prelude.{◌≡◌, ◌⊎◌, [], is_some};
 ghost use Rattle.std.specs.FinMap as finite;
 ghost use Rattle.group_history.specs.Scans.{rows_of};
 ghost use Rattle.host_places.specs.declared.faults.Fault.TheVariants as fault;
