@@ -370,6 +370,7 @@ class OwnMutators(unittest.TestCase):
 
     def test_beside_rules(self) -> None:
         rules: dict[str, Json] = {"add": [["put", "r", ["add", ["or", ["get", "r"], 0], 1]]]}
+        rules.update({name: [["put", "looked", 1]] for name in ("", "_", "look")})
         own = {"note": note, "take": take}
         anna, bert = Group(ID, profile="p1", schema="s1", rules=rules, mutators=own, places=2).places
         anna.sit(ANNA)
@@ -379,6 +380,9 @@ class OwnMutators(unittest.TestCase):
         self.assertIs(pull(anna, response(1, put("r", 10))), Ended.APPLIED)
         self.assertEqual(bert.scan(), [("n", [7]), ("r", 12), ("rebased", True)])
         self.assertEqual(anna.mutate("take", "n"), 3)
+        with anna.look() as draft:
+            self.assertEqual((draft.get("r"), draft.has("n")), (12, False))
+        self.assertEqual((anna.has("looked"), anna.refresh()), (False, 3))
         self.refused(Why.BAD_RULES, Group, ID, profile="p1", schema="s1", rules={"a": 1}, mutators=own)
         with self.assertRaisesRegex(ValueError, "one name: take"):
             Group(ID, profile="p1", schema="s1", rules={"take": []}, mutators=own)

@@ -375,10 +375,12 @@ class Place:
     `close` each call is refused with `Why.NO_PLACE`.
     """
 
-    def __init__(self, handle: _Handle, mutators: Mapping[str, Mutator]) -> None:
-        """For `Group` alone, which opened the handle."""
+    def __init__(self, handle: _Handle, mutators: Mapping[str, Mutator], unruled: str | None) -> None:
+        """For `Group` alone, which opened the handle. `unruled` is a name that has no rule, where the program is asked
+        for runs of such."""
         self._handle = handle
         self._mutators = mutators
+        self._unruled = unruled
         self._answer = _Answer()
         # A mutator of the program's own runs while its change has the place.
         self._lock = threading.RLock()
@@ -507,11 +509,12 @@ class Place:
         For groups with mutators of the program's own: in others it is refused with `Why.NO_MUTATOR`. Where no slot is
         free for the change it is refused with `Why.FULL`, and where the group is closed with `Why.CLOSED`.
         """
+        if self._unruled is None:
+            raise Refusal(Why.NO_MUTATOR)
         with self._lock:
             # Else each look of a client that made no mutation for long walks over all that is pending.
             self.refresh()
-            if self._call(_What.MUTATE, b=b"null").returned != _ASKED:
-                raise Refusal(Why.NO_MUTATOR)
+            self._call(_What.MUTATE, a=self._unruled.encode(), b=b"null")
             draft = Draft(self, rebase=False)
             try:
                 yield draft
@@ -653,7 +656,8 @@ class Group:
         if returned == Why.BAD_RULES:
             raise Refusal(Why.BAD_RULES, fault=_rules_fault(texts[-1]))
         _done(returned)
-        self.places = [Place(handle, mutators or {}) for handle in handles]
+        unruled = None if mutators is None else "_" * (1 + max(map(len, rules or {}), default=0))
+        self.places = [Place(handle, mutators or {}, unruled) for handle in handles]
         """The places; the group is freed with the last of them."""
 
     def close(self) -> None:
