@@ -18,6 +18,12 @@
  * GIQ_MOVED, GIQ_BUSY or GIQ_GONE. GIQ_STAMPS comes only where all of a group's 2^40 stamps but 2^32 are drawn: a
  * try of a change draws one for each commit and each chunk that it makes.
  *
+ * Of two refusals. Where a call has several, the first of these is returned: GIQ_NO_PLACE; what its bytes and numbers
+ * say, one parameter after the other, a response not among them: GIQ_NOT_UTF8, GIQ_BAD_UUID, GIQ_NOT_JSON,
+ * GIQ_NOT_WHOLE, GIQ_OUT_OF_RANGE; GIQ_ASKS or GIQ_NOT_ASKED; GIQ_IN_USE or GIQ_NO_CLIENT; GIQ_NO_TICKET or
+ * GIQ_NO_WATCH; and then what the group answers, which reads a response (docs/RECORD.md has its order). GIQ_NO_MEMORY
+ * may come in the place of any of them but the first.
+ *
  * Mutators. A group runs its rules itself, and without own_mutators those of scripts. With own_mutators each name that
  * has no rule is a mutator of the program's own: a mutation of one, and an end of a pull where such a mutation stays
  * pending, answer GIQ_ASKED. The program runs the mutator on the run's map, by the calls giq_asked_name to
@@ -367,11 +373,11 @@ static inline const char *giq_message(int32_t number) {
 /* Whether the library has this header's major and minor number. A program that calls giq_open itself asks before. */
 static inline int giq_is_of_version(void) { return (giq_version() & ~GIQ_UNPROVED) / 100 == GIQ_VERSION / 100; }
 
-/* What is wrong with rules that are refused with GIQ_BAD_RULES: the first fault with its place, a JSON Pointer, as
- * "/add/0/2: unknown word" (docs/RULES.md). As snprintf does, it writes as much of that text as fits in `size` bytes,
- * with a zero behind it, and returns how many bytes the whole text has without the zero. 0: nothing is wrong, or there
- * are no rules. GIQ_NO_MEMORY: the text is empty. Any thread may call it at any time; `text` may not lie where `rules`
- * do. */
+/* What is wrong with rules that are refused with GIQ_BAD_RULES: the first fault with its place, as
+ * "/add/0/2: unknown word" (docs/RULES.md); the text has no zero and no line feed. As snprintf does, it writes as much
+ * of that text as fits in `size` bytes, with a zero behind it, and returns how many bytes the whole text has without
+ * the zero. 0: nothing is wrong, or there are no rules. GIQ_NO_MEMORY: the text is empty. Any thread may call it at any
+ * time; `text` may not lie where `rules` do. */
 static inline int64_t giq_check_rules(giq_bytes rules, char *text, size_t size) {
     char none;
     const size_t room = size == 0 ? 0 : size - 1;
@@ -381,9 +387,10 @@ static inline int64_t giq_check_rules(giq_bytes rules, char *text, size_t size) 
 }
 
 /* Opens a group at `count` places, 1 to GIQ_MAX_PLACES, none of which is open; the group is in memory and starts empty.
- * Where it is refused the places are closed: GIQ_BAD_VERSION (see giq_is_of_version), GIQ_BAD_UUID, GIQ_NOT_UTF8,
- * GIQ_BAD_RULES (see giq_check_rules), GIQ_OUT_OF_RANGE (slots, places or own_mutators), GIQ_NO_MEMORY. What is proved
- * allows GIQ_BUSY and GIQ_FULL too; no test met them here. */
+ * Where it is refused the places are closed, with the first of these: GIQ_BAD_VERSION (see giq_is_of_version),
+ * GIQ_OUT_OF_RANGE (places, then own_mutators), GIQ_BAD_RULES (see giq_check_rules), GIQ_BAD_UUID, GIQ_NOT_UTF8,
+ * GIQ_OUT_OF_RANGE (slots); GIQ_NO_MEMORY may come in the place of any. What is proved allows GIQ_BUSY and GIQ_FULL
+ * too; no test met them here. */
 static inline int32_t giq_open_places(const giq_opening *with, giq_place *places, size_t count) {
     if (count != 0) memset(places, 0, count * sizeof *places);
     if (!giq_is_of_version()) return GIQ_BAD_VERSION;

@@ -1,14 +1,14 @@
 """Rules, mutators as data: what a text says as rules, and what they mean at a map. The twin of the crate rule_mutators.
 
-    rules = read(text)                       # bytes; raises Fault, whose place is a JSON Pointer
+    rules = read(text)                           # bytes; raises Fault, as told in docs/RULES.md
     entries = run(rules, name, args, entries)    # the map after the mutator, a new dict; raises Refused or Unknown
-    run_on(rules, name, args, entries)           # changes the map itself, any mapping; what a refused one wrote stays there
+    run_on(rules, name, args, entries)           # changes the map itself, any mapping; what a refused one wrote stays
 """
-import json
+import json, re
 
 WRONG = 1
-PARTS = {"arg": 1, "lit": 1, "get": 1, "has": 1, "not": 1, "field": 2, "or": 2, "same": 2, "add": 2, "sub": 2, "below": 2,
-         "and": 2, "cat": None, "put": 2, "del": 1, "merge": 2, "need": 2, "if": 3}
+PARTS = {"arg": 1, "lit": 1, "get": 1, "has": 1, "not": 1, "field": 2, "or": 2, "same": 2, "add": 2, "sub": 2,
+         "below": 2, "and": 2, "cat": None, "put": 2, "del": 1, "merge": 2, "need": 2, "if": 3}
 STEPS = ("put", "del", "merge", "need", "if")
 class Fault(Exception):
     def __init__(self, wrong, place=None):
@@ -17,7 +17,9 @@ class Refused(Exception):
     def __init__(self, code=WRONG): super().__init__(code); self.code = code
 class Unknown(Exception): pass
 
-# ---- JSON: whole numbers of 64 bits are ints, all others floats; nested at most 127 deep
+# ---- JSON: whole numbers of 64 bits are ints, all others floats; nested at most 127 deep. Of two members of a name the
+# last one counts; an overridden one has to be JSON all the same.
+STRING = re.compile(r'"(?:[^"\\]|\\.)*"')
 def number(text):
     n = int(text) if text.lstrip("-").isdigit() else None
     if n is not None and -2**63 <= n < 2**64 and text != "-0": return n
@@ -27,18 +29,25 @@ def constant(text): raise ValueError(text)
 def inside(v): return list(v.values()) if type(v) is dict else v if type(v) is list else []
 def depth(v): return 1 + max(map(depth, inside(v)), default=0) if type(v) in (dict, list) else 0
 def is_whole(v): return type(v) is not float and all(map(is_whole, inside(v)))
+def nests(text):
+    deepest = now = 0
+    for c in STRING.sub("", text):
+        now += (c in "[{") - (c in "]}")
+        deepest = max(deepest, now)
+    return deepest
 def value_of(text):
     try:
         text = text.decode("utf-8")
         value = json.loads(text, parse_int=number, parse_float=number, parse_constant=constant)
-        json.dumps(value, ensure_ascii=False).encode("utf-8")
+        for string in STRING.findall(text): json.loads(string).encode("utf-8")
     except (ValueError, RecursionError): value = Fault
-    if value is Fault or depth(value) > 127: raise Fault("no JSON text, or one that nests too deep")
+    if value is Fault or nests(text) > 127: raise Fault("no JSON text, or one that nests too deep")
     return value
 def compact(v): return json.dumps(v, sort_keys=True, separators=(",", ":"), ensure_ascii=False)
 
-# ---- reading: the first fault in the order of reading
-def at(place, part): return f"{place}/{str(part).replace('~', '~0').replace('/', '~1')}"
+# ---- reading: the first fault in the order of reading. A place is a JSON Pointer, written as a JSON string has it.
+def escaped(name): return json.dumps(name.replace("~", "~0").replace("/", "~1"), ensure_ascii=False)[1:-1]
+def at(place, part): return f"{place}/{escaped(str(part))}"
 def read(text):
     rules = value_of(text)
     if type(rules) is not dict: raise Fault("no JSON object")

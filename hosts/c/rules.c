@@ -88,6 +88,7 @@ int main(void) {
     FAULTY("[]", "no JSON object");
     FAULTY("{\"add\":[[\"put\",\"k\",[\"adds\",1,2]]]}", "/add/0/2: unknown word");
     FAULTY("{\"a/b~\xc3\xa9\":1}", "/a~1b~0\xc3\xa9: no list of steps");
+    FAULTY("{\"\\n\\u0000\\\"\":1}", "/\\n\\u0000\\\": no list of steps");
     FAULTY("{}", "");
     FAULTY("", "");
     IS(opened("{\"a\":[[]]}"), GIQ_BAD_RULES);

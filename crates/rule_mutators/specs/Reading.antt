@@ -1,9 +1,9 @@
 -- What a text says as rules: the rules, or the first fault in the order of reading. The members of an object are read
 -- in the order of their names' bytes, and of two members of one name the last. These are this project's own rules.
-use Rattle.std.specs.Prelude.{ℕ, ◌+◌, ◌^◌, ◌==◌, nat_lt, List, [], ◌∷◌, ◌++◌, codes, decimal, if◌then◌else◌}
-use Rattle.std.specs.Char.{encode_utf8}
+use Rattle.std.specs.Prelude.{ℕ, ◌+◌, ◌/◌, ◌%◌, ◌^◌, ◌==◌, nat_lt, List, [], ◌∷◌, ◌++◌, codes, decimal, if◌then◌else◌}
+use Rattle.std.specs.Char.{digit_char, encode_utf8}
 use Rattle.std.specs.Str.{chars}
-use Rattle.std.specs.Prelude.{Option, Some, None, option_map, option_and_then, Result, Ok, Err}
+use Rattle.std.specs.Prelude.{Option, Some, None, option_map, option_and_then, unwrap_or, Result, Ok, Err}
 use Rattle.serde_json.specs.Data.{Data, null, boolean, number, string, array, object, Items, no_items, item}
 use Rattle.serde_json.specs.Data.{Members, no_members, member}
 use Rattle.serde_json.specs.Find.{as_str, as_number, as_u64}
@@ -26,11 +26,29 @@ use Rattle.rule_mutators.specs.declared.words.StepWord.TheVariants as step_word
 use Rattle.rule_mutators.specs.Rules as rule
 use Rattle.rule_mutators.specs.Rules.{Expression, Expressions, Fields, Step, Steps, Rules}
 
--- ---- places, which are JSON Pointers (RFC 6901)
+-- ---- places, which are JSON Pointers, as a JSON string has them (RFC 6901, sections 3 and 5)
 
--- in a name `~` is written `~0`, and `/` is written `~1`
+-- characters of a name that have an escape of their own: two by the pointer, seven by the string (RFC 8259, section 7)
+unfoldable pub escape_of : ℕ → Option Bytes
+escape_of c =
+    if c == 126 then Some (codes "~0")
+    else (if c == 47 then Some (codes "~1")
+    else (if c == 34 then Some (codes "\\\"")
+    else (if c == 92 then Some (codes "\\\\")
+    else (if c == 8 then Some (codes "\\b")
+    else (if c == 9 then Some (codes "\\t")
+    else (if c == 10 then Some (codes "\\n")
+    else (if c == 12 then Some (codes "\\f")
+    else (if c == 13 then Some (codes "\\r")
+    else None))))))))
+
+-- any other one: a control character by its number in hexadecimal digits, else itself
+unfoldable pub unnamed_char : ℕ → Bytes
+unnamed_char c =
+    if nat_lt c 32 then codes "\\u00" ++ digit_char (c / 16) ∷ digit_char (c % 16) ∷ [] else encode_utf8 c
+
 abbrev pub escaped_char : ℕ → Bytes
-escaped_char c = if c == 126 then codes "~0" else (if c == 47 then codes "~1" else encode_utf8 c)
+escaped_char c = unwrap_or (escape_of c) (unnamed_char c)
 
 abbrev pub escaped_chars : List ℕ → Bytes
 escaped_chars [] = []

@@ -5,8 +5,9 @@
 //! a rule means `specs/Meaning.antt`. There are no loops, so each rule ends. A name without a rule is a mutator of
 //! scripts.
 //!
-//! Tested by the lines of `replicache_serve`: each word once, and how each fault is told. By hand, in an unproved
-//! build: each allocation refused in turn, and 10,000 random cases beside the twin in Python (`tools/compare-rules`).
+//! Tested by the lines of `replicache_serve`: each word once, and how each fault is told; and by random rules that the
+//! gate plays beside the twin in Python (`tools/compare-rules`). By hand, in an unproved build: each allocation refused
+//! in turn.
 #![tactic(auto)]
 
 mod evaluating;

@@ -1,5 +1,7 @@
-//! Places in the value of a text, as JSON Pointers (RFC 6901).
-ghost use Rattle.std.specs.Prelude.{◌≡◌, ◌++◌, IfOk, OnOk, string_bytes};
+//! Places in the value of a text: JSON Pointers, written as a JSON string has them (RFC 6901, section 5).
+ghost use Rattle.std.specs.Prelude.{◌≡◌, ◌<◌, ◌++◌, IfOk, OnOk, string_bytes};
+ghost use Rattle.std.specs.Char.{digit_char};
+ghost use Rattle.std.specs.Option.{option_copied};
 ghost use Rattle.rule_mutators.specs.Reading as spec;
 
 use std::alloc::{AllocError, Global};
@@ -22,7 +24,7 @@ pub(crate) fn member_at(alloc: Global, place: &str, name: &str) -> Result<String
     Ok(at)
 }
 
-/// Adds a name, in which `~` is written `~0` and `/` is written `~1`.
+/// Adds a name, each character as a place has it.
 fn push_escaped(to: &mut String, name: &str) -> Result<(), AllocError>
     ensures { OnOk result (string_bytes to.new ≡ string_bytes to.old ++ spec.escaped name.now) }
 {
@@ -35,9 +37,51 @@ fn push_escaped(to: &mut String, name: &str) -> Result<(), AllocError>
 fn push_escaped_char(to: &mut String, c: char) -> Result<(), AllocError>
     ensures { OnOk result (string_bytes to.new ≡ string_bytes to.old ++ spec.escaped_char c) }
 {
+    match escape_of(c) {
+        Some(text) => to.push_str(text),
+        None => push_unnamed(to, c),
+    }
+}
+
+/// How a character is written that has an escape of its own.
+#[tactic(auto, unfolding(crate::specs::Reading::escape_of))]
+fn escape_of(c: char) -> Option<&'static str>
+    ensures { option_copied result ≡ spec.escape_of c }
+{
     match c {
-        '~' => to.push_str("~0"),
-        '/' => to.push_str("~1"),
-        c => to.push(c),
+        '~' => Some("~0"),
+        '/' => Some("~1"),
+        '"' => Some("\\\""),
+        '\\' => Some("\\\\"),
+        '\u{8}' => Some("\\b"),
+        '\t' => Some("\\t"),
+        '\n' => Some("\\n"),
+        '\u{c}' => Some("\\f"),
+        '\r' => Some("\\r"),
+        _ => None,
+    }
+}
+
+/// Adds another character: a control character by its number, any other as it is.
+#[tactic(auto, unfolding(crate::specs::Reading::unnamed_char))]
+fn push_unnamed(to: &mut String, c: char) -> Result<(), AllocError>
+    ensures { OnOk result (string_bytes to.new ≡ string_bytes to.old ++ spec.unnamed_char c) }
+{
+    let code = u32::from(c);
+    if code >= 32 {
+        return to.push(c);
+    }
+    to.push_str(if code < 16 { "\\u000" } else { "\\u001" })?;
+    to.push(hexadecimal(code % 16))
+}
+
+/// The hexadecimal digit of a number below 16.
+fn hexadecimal(digit: u32) -> char
+    requires { digit < 16 }
+    ensures { result ≡ digit_char digit }
+{
+    match char::from_digit(digit, 16) {
+        Some(c) => c,
+        None => unreachable!(),
     }
 }

@@ -1,7 +1,10 @@
 -- What a line is answered, by what it says.
 use Rattle.std.proofs.Common.{◌≡◌, ℕ, ◌<◌, List, [], ◌∷◌, ◌++◌, length, map, refl, sym, ap, subst, ◌∙◌, arith}
+use Rattle.std.proofs.lemmas.Bool.{false_from_ne_true}
 use Rattle.std.proofs.lemmas.List.{length-map}
+use Rattle.std.proofs.lemmas.Str.{is_utf8-from_IsUtf8, IsUtf8-from_is_utf8}
 use Rattle.std.specs.Prelude.{None, Result, Ok, Err, IfOk, OnOk}
+use Rattle.std.specs.Str.{IsUtf8, is_utf8}
 use Rattle.group_history.specs.Map.{Bytes}
 use Rattle.script_parser.specs.declared.script.Asked.{Asked}
 use Rattle.script_parser.specs.declared.script.Asked.TheVariants as asked
@@ -11,12 +14,22 @@ use Rattle.script_parser.specs.Kept.{bare, new_phase, without_lines}
 use Rattle.script_parser.specs.Reading.{AsksFor, bytes_said_with}
 use Rattle.script_runner.specs.Phases.{all_sights}
 use Rattle.script_server.specs.Answers.{Answers, AnswersBy, BeginsPhase, Does, Opens, Says, given_before}
-use Rattle.script_server.specs.Answers.{given_in, ok_text}
+use Rattle.script_server.specs.Answers.{behind_rules, given_in, ok_text, rules_given}
 use Rattle.script_server.specs.Standing.{Standing}
 use Rattle.script_server.specs.declared.heads.Head.{Head}
 use Rattle.script_server.specs.declared.heads.Head.TheVariants as head
 use Rattle.script_server.specs.Inside.Stages.{HasDone, IsFirstPhase, IsHead, IsHeadOf, IsNoCommand, IsOpen}
 use Rattle.script_server.specs.Inside.Stages.{IsPlaced}
+
+-- ---- rules
+
+pub given-text : (line : Bytes) → IsUtf8 line → rules_given line ≡ behind_rules line
+unfolding rules_given
+given-text line utf8 = rw (is_utf8-from_IsUtf8 line utf8)
+
+pub given-bytes : (line : Bytes) → (IsUtf8 line → ⊥) → rules_given line ≡ None
+unfolding rules_given
+given-bytes line other = rw (false_from_ne_true (is_utf8 line) (λ e. other (IsUtf8-from_is_utf8 line e)))
 
 -- ---- any line
 

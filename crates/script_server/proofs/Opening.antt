@@ -2,12 +2,12 @@
 use Rattle.std.proofs.Common.{◌+◌, ap, subst, sym}
 use Rattle.std.specs.Prelude.{Option}
 use Rattle.std.specs.Io.KnownBytes.{Appends}
-use mathlib.Core.List.{IsPrefix}
 use Rattle.group_history.specs.Map.{Bytes}
-use Rattle.script_server.specs.Answers.{Answers, Opens, ok_text}
+use Rattle.script_server.specs.Answers.{Answers, IsLine, Opens, ok_text}
 use Rattle.script_server.specs.Serving.{HasEnded, HasServed, HasServedSome, Place, Served, beginning}
 use Rattle.script_server.specs.Standing.{Standing}
 use Rattle.script_server.specs.Inside.Stages.{HasBegun, IsServed, place_of}
+use Rattle.script_server.specs.Inside.Writes.{WritesSome}
 use Rattle.script_server.proofs.Answering.{answers_first}
 use Rattle.script_server.proofs.Served.{ended_here, ended_on, ended_within, served_on, served_one}
 
@@ -21,19 +21,18 @@ answered_first old at after begun opens =
     subst (λ n. Answers old.number begun.line old.standing (ok_text n) after) (sym begun.number)
     (answers_first old.number begun.line old.standing at.standing after begun.first opens)
 
-pub ended_first : (old at : Place) (after : Standing) (cut : Bytes) (output : Option Bytes) → HasBegun old at
-    → Opens at.standing at.standing.said after → IsPrefix cut (ok_text at.number) → Appends at.output output cut
-    → HasEnded old output
-ended_first old at after cut output begun opens begins written =
-    ended_within old begun.line at.input (ok_text at.number) after cut output begun.taken
-    (answered_first old at after begun opens) begins (subst (λ o. Appends o output cut) begun.output written)
+pub ended_first : (old at : Place) (after : Standing) (output : Option Bytes) → HasBegun old at
+    → Opens at.standing at.standing.said after → WritesSome (ok_text at.number) at.output output → HasEnded old output
+ended_first old at after output begun opens some =
+    ended_within old begun.line at.input (ok_text at.number) after output begun.taken
+    (answered_first old at after begun opens) (subst (λ o. WritesSome (ok_text at.number) o output) begun.output some)
 
 pub served_first : (old at : Place) (after : Standing) (output : Option Bytes) → HasBegun old at
-    → Opens at.standing at.standing.said after → Appends at.output output (ok_text at.number)
-    → Served old (place_of after (at.number + 1) at.input output)
-served_first old at after output begun opens written =
+    → Opens at.standing at.standing.said after → IsLine (ok_text at.number)
+    → Appends at.output output (ok_text at.number) → Served old (place_of after (at.number + 1) at.input output)
+served_first old at after output begun opens one written =
     served_one old (place_of after (at.number + 1) at.input output) begun.line (ok_text at.number)
-    (ap (λ n. n + 1) begun.number) begun.taken (answered_first old at after begun opens)
+    (ap (λ n. n + 1) begun.number) begun.taken (answered_first old at after begun opens) one
     (subst (λ o. Appends o output (ok_text at.number)) begun.output written)
 
 -- to the end of the input

@@ -1,16 +1,18 @@
 -- Serving goes on from where it was.
 use Rattle.std.proofs.Common.{◌≡◌, ℕ, ◌+◌, List, [], ◌∷◌, ◌++◌, length, refl, sym, ap, subst, ◌∙◌, append_assoc, arith}
-use Rattle.std.proofs.Common.{append-nil, ◌-◌, ◌≤◌, drop, length-drop, inl, inr, length-append, take, take-append-drop}
+use Rattle.std.proofs.Common.{append-nil, ◌-◌, ◌≤◌, ◌⊎◌, drop, length-drop, inl, inr, length-append, take}
+use Rattle.std.proofs.Common.{take-append-drop}
 use Rattle.std.proofs.Math.Seq.{take-add}
 use Rattle.std.proofs.lemmas.List.{take_all}
 use Rattle.std.specs.Prelude.{Option, Some, None, Result, Ok, Err, OnErr}
 use Rattle.std.specs.Io.KnownBytes.{Appends, Keeps}
 use mathlib.Core.List.{IsPrefix}
 use Rattle.group_history.specs.Map.{Bytes}
-use Rattle.script_server.specs.Answers.{Answers}
+use Rattle.script_server.specs.Answers.{Answers, IsLine}
 use Rattle.script_server.specs.Lines.{AreLines, HasTaken}
-use Rattle.script_server.specs.Serving.{HasEnded, Place, Served, Serves}
+use Rattle.script_server.specs.Serving.{HasEnded, IsCut, Place, Served, Serves}
 use Rattle.script_server.specs.Standing.{Standing}
+use Rattle.script_server.specs.Inside.Writes.{IsBeginning, WritesSome}
 
 -- what holds holds of an error
 pub on_err : {T E P : Type 0} (r : Result T E) → P → OnErr r P
@@ -85,8 +87,9 @@ serves_on n (l ∷ ls) ms a b c s t h k = (
   h.1,
   h.2 ++ t,
   h.3,
-  ap (λ w. w ++ t) h.4 ∙ append_assoc h.0 h.2 t,
-  serves_on (n + 1) ls ms h.1 b c h.2 t h.5 (subst (λ m. Serves m ms b t c) (omega arith) k),
+  h.4,
+  ap (λ w. w ++ t) h.5 ∙ append_assoc h.0 h.2 t,
+  serves_on (n + 1) ls ms h.1 b c h.2 t h.6 (subst (λ m. Serves m ms b t c) (omega arith) k),
 )
 
 pub served_on : (a b c : Place) → Served a b → Served b c → Served a c
@@ -112,13 +115,13 @@ served_none a = record {
 
 -- one line more
 pub served_one : (a b : Place) (line answer : Bytes) → b.number ≡ a.number + 1 → HasTaken a.input (line ∷ []) b.input
-    → Answers a.number line a.standing answer b.standing → Appends a.output b.output answer → Served a b
-served_one a b line answer number taken answered written = record {
+    → Answers a.number line a.standing answer b.standing → IsLine answer → Appends a.output b.output answer → Served a b
+served_one a b line answer number taken answered one written = record {
   lines = line ∷ [];
   taken = taken;
   number = number;
   text = answer;
-  answered = (answer, b.standing, [], answered, sym (append-nil answer), (refl, refl));
+  answered = (answer, b.standing, [], answered, one, sym (append-nil answer), (refl, refl));
   written = written;
 }
 
@@ -143,21 +146,28 @@ ended_here a = record {
 }
 
 -- within the answer of a line
-pub ended_within : (a : Place) (line : Bytes) (rest : Option Bytes) (answer : Bytes) (after : Standing) (cut : Bytes)
+next_cut : (a : Place) (line : Bytes) (rest : Option Bytes) (answer : Bytes) (after : Standing) (cut : Bytes)
+    → HasTaken a.input (line ∷ []) rest → Answers a.number line a.standing answer after → IsBeginning cut answer
+    → (cut ≡ []) ⊎ IsCut a cut
+next_cut a line rest answer after cut taken answered (inl none) = inl none
+next_cut a line rest answer after cut taken answered (inr begins) = inr (record {
+  line = line;
+  rest = rest;
+  taken = taken;
+  answer = answer;
+  after = after;
+  answered = answered;
+  one = begins.0;
+  begins = begins.1;
+})
+
+pub ended_within : (a : Place) (line : Bytes) (rest : Option Bytes) (answer : Bytes) (after : Standing)
     (output : Option Bytes) → HasTaken a.input (line ∷ []) rest → Answers a.number line a.standing answer after
-    → IsPrefix cut answer → Appends a.output output cut → HasEnded a output
-ended_within a line rest answer after cut output taken answered begins written = record {
+    → WritesSome answer a.output output → HasEnded a output
+ended_within a line rest answer after output taken answered some = record {
   last = a;
   served = served_none a;
-  cut = cut;
-  next = inr (record {
-    line = line;
-    rest = rest;
-    taken = taken;
-    answer = answer;
-    after = after;
-    answered = answered;
-    begins = begins;
-  });
-  written = written;
+  cut = some.0;
+  next = next_cut a line rest answer after some.0 taken answered some.1;
+  written = some.2;
 }

@@ -1,14 +1,15 @@
 -- What a line is answered, and how it leaves things.
-use Rattle.std.specs.Prelude.{codes, decimal, ◌≡◌, ℕ, nat_eq, List, [], ◌∷◌, ◌++◌, drop, Option, Some, None, Result, Ok}
-use Rattle.std.specs.Prelude.{Err, if◌then◌else◌}
-use Rattle.std.specs.List.{concat, starts_with}
-use Rattle.group_history.specs.Map.{Bytes}
+use Rattle.std.specs.Prelude.{codes, decimal, ◌≡◌, ℕ, ◌-◌, ◌==◌, Bool, true, ◌&&◌, not, List, [], ◌∷◌, ◌++◌, length}
+use Rattle.std.specs.Prelude.{take, slice_index, Option, Some, None, Result, Ok, Err, if◌then◌else◌}
+use Rattle.std.specs.List.{concat, list_any}
+use Rattle.std.specs.Str.{is_utf8}
+use Rattle.group_history.specs.Map.{Bytes, same_text}
 use Rattle.rule_mutators.specs.declared.faults.RuleFault.{RuleFault}
 use Rattle.rule_mutators.specs.Faults.{fault_text as rules_fault_text}
 use Rattle.rule_mutators.specs.Reading.{rules_said}
 use Rattle.rule_mutators.specs.Rules.{Rules}
 use Rattle.script_parser.specs.declared.faults.ScriptFault.{ScriptFault}
-use Rattle.script_parser.specs.declared.faults.ScriptFault.TheVariants.{SaidTwice}
+use Rattle.script_parser.specs.declared.faults.ScriptFault.TheVariants.{BadWords, SaidTwice}
 use Rattle.script_parser.specs.declared.script.Asked.{Asked}
 use Rattle.script_parser.specs.declared.script.Asked.TheVariants as asked
 use Rattle.script_parser.specs.declared.script.Line.{Line}
@@ -17,12 +18,21 @@ use Rattle.script_parser.specs.Faults.{fault_text}
 use Rattle.script_parser.specs.Kept.{without_lines}
 use Rattle.script_parser.specs.Reading.{AsksFor, bytes_said_with}
 use Rattle.script_parser.specs.Scripts.{line_said}
+use Rattle.script_parser.specs.Words.{more, word}
 use Rattle.script_runner.specs.Answering.{IsToldAt}
 use Rattle.script_runner.specs.Phases.{all_sights}
 use Rattle.script_runner.specs.Runs.{AreNew, identity_of}
 use Rattle.script_server.specs.Standing.{Standing, means_in, rules_in}
 
 -- ---- the texts of answers
+
+-- a text is one line: its last byte is a line feed, and none before it
+unfoldable pub is_line : Bytes → Bool
+is_line text =
+    (slice_index text (length text - 1) == 10) && not (list_any (λ b. b == 10) (take (length text - 1) text))
+
+abbrev pub IsLine : Bytes → Type 0
+IsLine text = is_line text ≡ true
 
 -- `LINE ok`
 unfoldable pub ok_text : ℕ → Bytes
@@ -34,24 +44,33 @@ refused_text n fault = concat (decimal n ∷ codes " fault " ∷ fault ∷ codes
 
 -- ---- rules
 
--- the text of rules that a line gives: what follows `rules` and a space
-unfoldable pub rules_given : Bytes → Option Bytes
-rules_given line = if starts_with nat_eq line (codes "rules ") then Some (drop 6 line) else None
+-- what follows the word `rules` in a text that begins with it: a text of rules, or nothing
+unfoldable pub behind_rules : Bytes → Option (Option Bytes)
+behind_rules line = if same_text (word line) (codes "rules") then Some (more line) else None
+
+-- the same of the bytes of a line; one that is no UTF-8 gives no rules
+unfoldable pub rules_given : Bytes → Option (Option Bytes)
+rules_given line = if is_utf8 line then behind_rules line else None
 
 -- the same where these phases have begun: from the first one on no line does
-abbrev pub given_before : List (List Lines) → Bytes → Option Bytes
+abbrev pub given_before : List (List Lines) → Bytes → Option (Option Bytes)
 given_before [] line = rules_given line
 given_before (p ∷ ps) line = None
 
-abbrev pub given_in : Standing → Bytes → Option Bytes
+abbrev pub given_in : Standing → Bytes → Option (Option Bytes)
 given_in s line = given_before s.said.phases line
 
--- The rules that a text says, where a line before gave these; or how the fault of the line is told. That rules are given
--- twice is told of a text that says rules.
-abbrev pub rules_with : Option Rules → Result Rules RuleFault → Result Rules Bytes
-rules_with given (Err e) = Err (codes "rules " ++ rules_fault_text e)
-rules_with (Some given) (Ok rules) = Err (fault_text SaidTwice)
-rules_with None (Ok rules) = Ok rules
+-- The rules that a text says, where a line before gave these; or how the fault of the line is told. That rules are
+-- given twice is told of a text that says rules.
+abbrev pub first_rules : Option Rules → Result Rules RuleFault → Result Rules Bytes
+first_rules given (Err e) = Err (codes "rules " ++ rules_fault_text e)
+first_rules (Some given) (Ok rules) = Err (fault_text SaidTwice)
+first_rules None (Ok rules) = Ok rules
+
+-- the same of what follows the word `rules`; where nothing does, a word is missing
+abbrev pub rules_with : Option Rules → Option Bytes → Result Rules Bytes
+rules_with given None = Err (fault_text BadWords)
+rules_with given (Some text) = first_rules given (rules_said text)
 
 -- a line that gives rules
 abbrev pub GivesRules : Result Rules Bytes → ℕ → Standing → Bytes → Standing → Type 0
@@ -93,9 +112,8 @@ Says (Ok said) n before text after =
     (what : Asked) × AsksFor n before.said what said × Does what n before (without_lines said) text after
 
 -- a line that gives rules, or another one
-abbrev pub AnswersBy : Option Bytes → ℕ → Bytes → Standing → Bytes → Standing → Type 0
-AnswersBy (Some given) n line before text after = GivesRules (rules_with before.rules (rules_said given)) n before text
-    after
+abbrev pub AnswersBy : Option (Option Bytes) → ℕ → Bytes → Standing → Bytes → Standing → Type 0
+AnswersBy (Some given) n line before text after = GivesRules (rules_with before.rules given) n before text after
 AnswersBy None n line before text after = Says (bytes_said_with before.said n line) n before text after
 
 -- the line of this number is answered this text, and leaves things so

@@ -3,16 +3,17 @@ use Rattle.std.specs.Prelude.{◌≡◌, ◌⊎◌, ℕ, ◌+◌, List, [], ◌�
 use Rattle.std.specs.Io.KnownBytes.{Appends, IsAtEnd}
 use mathlib.Core.List.{IsPrefix}
 use Rattle.group_history.specs.Map.{Bytes}
-use Rattle.script_server.specs.Answers.{Answers}
+use Rattle.script_server.specs.Answers.{Answers, IsLine}
 use Rattle.script_server.specs.Lines.{HasTaken}
 use Rattle.script_server.specs.Standing.{Standing, at_first}
 
--- The lines, the first of which has this number, are answered one by one; the text has their answers in order.
+-- The lines, the first of which has this number, are answered one by one, each by one line; the text has their answers
+-- in order.
 abbrev pub Serves : ℕ → List Bytes → Standing → Bytes → Standing → Type 0
 Serves n [] before text after = (text ≡ []) × (after ≡ before)
 Serves n (l ∷ ls) before text after =
-    (answer : Bytes) × (next : Standing) × (rest : Bytes) × Answers n l before answer next × (text ≡ answer ++ rest)
-    × Serves (n + 1) ls next rest after
+    (answer : Bytes) × (next : Standing) × (rest : Bytes) × Answers n l before answer next × IsLine answer
+    × (text ≡ answer ++ rest) × Serves (n + 1) ls next rest after
 
 -- Where serving is, between two lines: how things stand, the number of the next line, what is left of the input and what
 -- the writer has, where these are known.
@@ -31,7 +32,8 @@ pub record Served (old new : Place) : Type 0 where
   pub answered : Serves old.number lines old.standing text new.standing
   pub written : Appends old.output new.output text
 
--- A beginning of the answer to the next line. The line was done, so the group may have changed by it.
+-- A beginning of the answer to the next line, which is one line. The line was done, so the group may have changed by
+-- it.
 pub record IsCut (at : Place) (cut : Bytes) : Type 0 where
   pub line : Bytes
   pub rest : Option Bytes
@@ -39,6 +41,7 @@ pub record IsCut (at : Place) (cut : Bytes) : Type 0 where
   pub answer : Bytes
   pub after : Standing
   pub answered : Answers at.number line at.standing answer after
+  pub one : IsLine answer
   pub begins : IsPrefix cut answer
 
 -- Serving ended early at the last place: of the next answer nothing was written, or a beginning. Such a line, if there was

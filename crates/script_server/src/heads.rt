@@ -1,10 +1,11 @@
 //! The lines before the first phase: those of a script's header, and the rules of the group.
-ghost use Rattle.std.specs.Prelude.{◌≡◌, ◌-◌, ◌^◌, ◌<◌, [], IfOk, IfSome, None, Ok, OnErr, OnOk};
+ghost use Rattle.std.specs.Prelude.{◌≡◌, ◌-◌, ◌^◌, ◌<◌, [], IfOk, IfSome, None, Ok, OnErr, OnOk, option_map};
 ghost use Rattle.std.specs.Option.{option_copied};
 ghost use Rattle.rule_mutators.specs.Reading.{rules_said};
 ghost use Rattle.rule_mutators.specs.Views.{rules_of};
 ghost use Rattle.script_parser.specs.Reading.{kept_by};
-ghost use Rattle.script_server.specs.Answers.{GivesRules, given_in, rules_given, rules_with};
+ghost use Rattle.script_parser.specs.Words.{more, word};
+ghost use Rattle.script_server.specs.Answers.{GivesRules, behind_rules, first_rules, given_in, rules_given, rules_with};
 ghost use Rattle.script_server.specs.Serving.{HasEnded};
 ghost use Rattle.script_server.specs.Inside.Stages.{AreHeads, HasTurned, IsHead, IsHeadOf, IsNoCommand, heads_stand, place_of};
 
@@ -54,15 +55,33 @@ impl Drop for Heads {
     }
 }
 
-/// The text of rules that a line gives.
-#[tactic(auto, unfolding(crate::specs::Answers::rules_given))]
-fn rules_given(line: &[u8]) -> Option<&[u8]>
-    ensures { option_copied result ≡ rules_given line.now }
+/// What follows the word `rules`, where a line begins with it: a text, or nothing.
+fn rules_given(line: &[u8]) -> Option<Option<&str>>
+    ensures { option_map option_copied result ≡ rules_given line.now }
 {
-    if line.starts_with(b"rules ") {
-        Some(&line[6..])
-    } else {
-        None
+    match str::from_utf8(line) {
+        Ok(line) => behind_rules(line),
+        Err(_) => None,
+    }
+}
+
+#[tactic(auto, unfolding(crate::specs::Answers::behind_rules))]
+fn behind_rules(line: &str) -> Option<Option<&str>>
+    ensures { option_map option_copied result ≡ behind_rules line.now }
+{
+    let (word, rest) = first_word(line);
+    if word == "rules" { Some(rest) } else { None }
+}
+
+/// The first word, and what follows it after one space.
+#[tactic(auto, unfolding(script_parser::specs::Words::word, script_parser::specs::Words::more))]
+fn first_word(line: &str) -> (&str, Option<&str>)
+    ensures first { result.0.now ≡ word line.now }
+    ensures rest { option_copied result.1 ≡ more line.now }
+{
+    match line.split_once(' ') {
+        Some((word, rest)) => (word, Some(rest)),
+        None => (line, None),
     }
 }
 
@@ -120,7 +139,7 @@ impl Heads {
         text: &mut Vec<u8>,
     ) -> Result<(), AllocError>
         requires { text.old.items ≡ [] }
-        ensures { OnOk result (GivesRules (rules_with (heads_stand self.old).rules (Ok (rules_of rules))) number
+        ensures { OnOk result (GivesRules (first_rules (heads_stand self.old).rules (Ok (rules_of rules))) number
             (heads_stand self.old) text.new.items (heads_stand self.new)) }
     {
         if self.rules.is_some() {
@@ -130,23 +149,35 @@ impl Heads {
         print_ok(text, number)
     }
 
-    /// Takes the rules that a line gives, where they are rules and the first ones.
-    fn give_rules(
-        &mut self,
-        number: u64,
-        given: &[u8],
-        text: &mut Vec<u8>,
-    ) -> Result<(), AllocError>
+    /// Takes the rules that a text says, where it says rules and they are the first ones.
+    fn read_rules(&mut self, number: u64, given: &str, text: &mut Vec<u8>) -> Result<(), AllocError>
         requires { text.old.items ≡ [] }
-        ensures { OnOk result (GivesRules (rules_with (heads_stand self.old).rules (rules_said given.now)) number
+        ensures { OnOk result (GivesRules (first_rules (heads_stand self.old).rules (rules_said given.now)) number
             (heads_stand self.old) text.new.items (heads_stand self.new)) }
     {
-        match Rules::read(self.alloc, given) {
+        match Rules::read(self.alloc, given.as_bytes()) {
             Ok(rules) => self.keep_rules(number, rules, text),
             Err(fault) => {
                 let told = rules_fault(self.alloc, &fault)?;
                 print_fault(text, number, told.as_str())
             }
+        }
+    }
+
+    /// Takes a line that begins with `rules`.
+    fn give_rules(
+        &mut self,
+        number: u64,
+        given: Option<&str>,
+        text: &mut Vec<u8>,
+    ) -> Result<(), AllocError>
+        requires { text.old.items ≡ [] }
+        ensures { OnOk result (GivesRules (rules_with (heads_stand self.old).rules (option_copied given.entry)) number
+            (heads_stand self.old) text.new.items (heads_stand self.new)) }
+    {
+        match given {
+            Some(given) => self.read_rules(number, given, text),
+            None => print_fault(text, number, ScriptFault::BadWords.text()),
         }
     }
 

@@ -9,7 +9,8 @@
 //! parser's word (`bytes_said_with`), what a client's line is told the runner's (`IsToldAt`), what rules are that of
 //! `rule_mutators`. What a whole input is answered is `specs/Serving.antt`; `program` has the clauses. Where serving ends
 //! early they say how many lines were answered, and that a beginning at most was written of one answer more, whose line
-//! may have been done.
+//! may have been done. Each answer is one line (`IsLine`). No clause of the group says that a reply has no line feed
+//! inside, so `write_answer` looks before it writes: a text that were no line would end serving as a failed write does.
 //!
 //! Decisions. A meaning belongs to a type, and rules are values: so the group is opened in a function of its own
 //! (`serve_phases`), at the call of which the rules are picked. A stage is seen as `Standing`, and what a function did to

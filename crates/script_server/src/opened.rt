@@ -1,14 +1,13 @@
 //! The lines from the first phase on, which the clients of a group answer.
 ghost use Rattle.std.specs.Prelude.{◌≡◌, ◌+◌, ◌-◌, ◌^◌, ◌<◌, [], IfOk, OnErr, OnOk, length};
 ghost use Rattle.std.specs.Io.KnownBytes.{Appends};
-ghost use mathlib.Core.List.{IsPrefix};
-ghost use Rattle.group_history.specs.Map.{Bytes};
 ghost use Rattle.script_parser.specs.declared.script.Asked.TheVariants as kind;
-ghost use Rattle.script_server.specs.Answers.{Answers, Opens, ok_text};
+ghost use Rattle.script_server.specs.Answers.{Answers, IsLine, Opens, ok_text};
 ghost use Rattle.script_server.specs.Serving.{HasEnded, Place};
 ghost use Rattle.script_server.specs.Standing.{Standing, rules_in};
 ghost use Rattle.script_server.specs.Inside.Stages.{HasAnswered, HasBegun, HasDone, IsPlaced, IsServed, IsOpen, heads_stand};
 ghost use Rattle.script_server.specs.Inside.Stages.{opened_stand, place_of};
+ghost use Rattle.script_server.specs.Inside.Writes.{WritesSome};
 
 use crate::heads::Heads;
 use crate::printing::{print_fault, print_ok};
@@ -177,9 +176,9 @@ impl<B: Picked + Sync + Drop> Opened<B> {
 
 /// Answers the line of this number, which began the first phase.
 fn answer_first<W: Write>(number: u64, out: &mut W, text: &mut Vec<u8>) -> Result<(), Stop>
+    ensures line { OnOk result (IsLine (ok_text number)) }
     ensures whole { OnOk result (Appends (W.contents out.old) (W.contents out.new) (ok_text number)) }
-    ensures cut { OnErr result ((cut : Bytes) × IsPrefix cut (ok_text number)
-        × Appends (W.contents out.old) (W.contents out.new) cut) }
+    ensures cut { OnErr result (WritesSome (ok_text number) (W.contents out.old) (W.contents out.new)) }
 {
     text.clear();
     print_ok(text, number)?;

@@ -4,7 +4,9 @@ ghost use Rattle.std.specs.Io.KnownBytes.{Appends, Keeps};
 ghost use Rattle.std.specs.Io.BufRead.{strip_last};
 ghost use mathlib.Core.List.{IsPrefix};
 ghost use Rattle.group_history.specs.Map.{Bytes};
+ghost use Rattle.script_server.specs.Answers.{IsLine, is_line};
 ghost use Rattle.script_server.specs.Inside.Reads.{HasRead};
+ghost use Rattle.script_server.specs.Inside.Writes.{WritesSome};
 
 use std::alloc::{AllocError, Global};
 use std::io::{self, BufRead, ErrorKind, Write};
@@ -75,8 +77,32 @@ fn drop_line_feed(line: &mut Vec<u8>)
     }
 }
 
-/// Writes an answer, and flushes the writer. Where the writer fails a beginning of the answer was written, maybe none.
+/// Whether a text is one line.
+#[tactic(auto, unfolding(crate::specs::Answers::is_line))]
+fn is_line(text: &[u8]) -> bool
+    ensures { result ≡ is_line text.now }
+{
+    let Some(last) = text.len().checked_sub(1) else {
+        return false;
+    };
+    text[last] == b'\n' && !text[..last].contains(&b'\n')
+}
+
+/// Writes an answer that is one line, and flushes the writer. Where the writer fails a beginning of the answer was
+/// written, maybe none. No text that isn't one line is written.
 pub(crate) fn write_answer<W: Write>(out: &mut W, text: &[u8]) -> Result<(), Stop>
+    ensures line { OnOk result (IsLine text.now) }
+    ensures whole { OnOk result (Appends (W.contents out.old) (W.contents out.new) text.now) }
+    ensures cut { OnErr result (WritesSome text.now (W.contents out.old) (W.contents out.new)) }
+{
+    if !is_line(text) {
+        return Err(Stop::Write);
+    }
+    write_text(out, text)
+}
+
+/// Writes a text, and flushes the writer. Where the writer fails a beginning of the text was written, maybe none.
+fn write_text<W: Write>(out: &mut W, text: &[u8]) -> Result<(), Stop>
     ensures whole { OnOk result (Appends (W.contents out.old) (W.contents out.new) text.now) }
     ensures cut { OnErr result ((cut : Bytes) × IsPrefix cut text.now
         × Appends (W.contents out.old) (W.contents out.new) cut) }

@@ -89,7 +89,7 @@ fn read(rt: &HostRuntime, name: &str, ending: &str) -> io::Result<String> {
 /// The trial that a script is, with what it prints.
 fn script_trial(rt: &HostRuntime, name: &str, stores: &str) -> Result<String, Failed> {
     let script = read(rt, name, "script")?;
-    let printed = read(rt, name, "stdout")?;
+    let printed = read(rt, name, "script.stdout")?;
     Ok(with_replies(rt.alloc(), stores, script.as_str(), printed.as_str())?)
 }
 

@@ -7,10 +7,11 @@ use Rattle.script_server.proofs.opened.Opened.serve_first.Goals as goal
 
 pub returns-in_err-answer_first-clause-ended : goal.returns-in_err-answer_first-clause-ended
 returns-in_err-answer_first-clause-ended g c old before begun opens =
-    let cut = c.in_err-answer_first.ensures.cut in
     on_err c.from_residual.result
-    (ended_first old (place_of before c.args.number (g.I.Read.remaining c.args.input.now) (g.W.Write.contents c.args.out.now))
-    (opened_stand c.args.self.now) cut.0 (g.W.Write.contents c.answer_first.new.out) begun opens cut.1 cut.2)
+    (ended_first old
+    (place_of before c.args.number (g.I.Read.remaining c.args.input.now) (g.W.Write.contents c.args.out.now))
+    (opened_stand c.args.self.now) (g.W.Write.contents c.answer_first.new.out) begun opens
+    c.in_err-answer_first.ensures.cut)
 
 pub returns-clause-served : goal.returns-clause-served
 returns-clause-served g c old before begun opens =
@@ -19,7 +20,7 @@ returns-clause-served g c old before begun opens =
     (g.W.Write.contents c.answer_first.new.out) in
     on_ok_weaker c.serve.result (end_on old next (g.W.Write.contents c.serve.new.out)
     (served_first old at (opened_stand c.args.self.now) (g.W.Write.contents c.answer_first.new.out) begun opens
-    c.in_ok-answer_first.ensures.whole)) c.serve.ensures.served
+    c.in_ok-answer_first.ensures.line c.in_ok-answer_first.ensures.whole)) c.serve.ensures.served
 
 pub returns-clause-ended : goal.returns-clause-ended
 returns-clause-ended g c old before begun opens =
@@ -28,4 +29,4 @@ returns-clause-ended g c old before begun opens =
     (g.W.Write.contents c.answer_first.new.out) in
     on_err_weaker c.serve.result (ended_on old next (g.W.Write.contents c.serve.new.out)
     (served_first old at (opened_stand c.args.self.now) (g.W.Write.contents c.answer_first.new.out) begun opens
-    c.in_ok-answer_first.ensures.whole)) c.serve.ensures.ended
+    c.in_ok-answer_first.ensures.line c.in_ok-answer_first.ensures.whole)) c.serve.ensures.ended

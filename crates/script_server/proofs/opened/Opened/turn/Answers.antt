@@ -1,7 +1,7 @@
 use Rattle.std.proofs.Common.{subst}
-use mathlib.Core.List.{IsPrefix}
 use Rattle.script_server.specs.Answers.{Answers}
 use Rattle.script_server.specs.Inside.Stages.{opened_stand, place_of}
+use Rattle.script_server.specs.Inside.Writes.{WritesSome}
 use Rattle.script_server.proofs.Reading.{was_read}
 use Rattle.script_server.proofs.Served.{ended_here, ended_within, on_err}
 use Rattle.script_server.proofs.opened.Opened.turn.Goals as goal
@@ -21,10 +21,10 @@ returns-in_err-write_answer-clause-ended g c =
     let input = g.I.Read.remaining c.args.input.now in let rest = g.I.Read.remaining c.read_line.new.input in
     let line = c.read_line.new.line.items in let text = c.answer.new.text.items in
     let before = opened_stand c.args.self.now in let after = opened_stand c.answer.new.self in
-    let cut = c.in_err-write_answer.ensures.cut in
     on_err c.from_residual-in_err-write_answer.result
-    (ended_within (place_of before c.args.number input (g.W.Write.contents c.args.out.now)) line rest text after cut.0
+    (ended_within (place_of before c.args.number input (g.W.Write.contents c.args.out.now)) line rest text after
     (g.W.Write.contents c.write_answer.new.out)
     (was_read c.in_ok-read_line.field-0 input rest line c.if-not-branch.false c.in_ok-read_line.ensures)
     (subst (λ l. Answers c.args.number l before text after) c.deref.ensures.value c.in_ok-answer.ensures.answered)
-    (subst (IsPrefix cut.0) c.deref-2.ensures.value cut.1) cut.2)
+    (subst (λ t. WritesSome t (g.W.Write.contents c.args.out.now) (g.W.Write.contents c.write_answer.new.out))
+    c.deref-2.ensures.value c.in_err-write_answer.ensures.cut))

@@ -1,6 +1,6 @@
 use Rattle.std.proofs.Common.{take}
 use Rattle.script_server.proofs.Served.{appends_kept, on_err, some_on, some_written, within_on}
-use Rattle.script_server.proofs.streams.write_answer.Goals as goal
+use Rattle.script_server.proofs.streams.write_text.Goals as goal
 
 pub loop-preserved : goal.loop-preserved
 loop-preserved g c =
