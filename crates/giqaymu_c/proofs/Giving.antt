@@ -7,10 +7,10 @@ use Rattle.std.specs.List.{All}
 use Rattle.std.proofs.lemmas.List.{get_or-set_same, get_or-set_other, length_push}
 use Rattle.std.proofs.lemmas.List.Elements.{All-pop}
 use Rattle.group_history.specs.declared.refusals.Refusal.TheVariants.{NoMemory}
-use Rattle.host_places.specs.declared.outcomes.Outcome.TheVariants.{Refused}
-use Rattle.host_places.specs.Numbers.{outcome_number}
+use Rattle.client_desk.specs.declared.outcomes.Outcome.TheVariants.{Refused}
+use Rattle.client_desk.specs.Numbers.{outcome_number}
 use Rattle.host_places.specs.Opening.{IsNew}
-use Rattle.host_places.specs.Places.{DeskState}
+use Rattle.host_places.specs.Desks.{DeskState}
 use Rattle.rebase.specs.Clients.{Grouped}
 use Rattle.giqaymu_c.proofs.Cases.{below_or_not}
 use Rattle.giqaymu_c.proofs.Numbers.{below_bits, below_kept}

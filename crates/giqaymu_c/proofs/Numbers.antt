@@ -17,14 +17,14 @@ use Rattle.rule_mutators.specs.Reading.{rules_or_none}
 use Rattle.rule_mutators.specs.Rules.{Rules}
 use Rattle.std.specs.Str.{is_utf8}
 use Rattle.uuid.specs.Text.{parsed}
-use Rattle.host_places.specs.declared.faults.Fault.{Fault}
-use Rattle.host_places.specs.declared.faults.Fault.TheVariants as fault
-use Rattle.host_places.specs.declared.outcomes.Outcome.{Outcome}
-use Rattle.host_places.specs.declared.outcomes.Outcome.TheVariants as outcome
+use Rattle.client_desk.specs.declared.faults.Fault.{Fault}
+use Rattle.client_desk.specs.declared.faults.Fault.TheVariants as fault
+use Rattle.client_desk.specs.declared.outcomes.Outcome.{Outcome}
+use Rattle.client_desk.specs.declared.outcomes.Outcome.TheVariants as outcome
 use Rattle.host_places.specs.Asking.{◌>>=◌, or_bad_uuid, text_said, uuid_in, uuid_said}
 use Rattle.group_history.specs.Refusals.{refusal_number, refusal_place}
 use Rattle.group_history.proofs.Numbered.{refusal_place_low}
-use Rattle.host_places.specs.Numbers.{fault_number, fault_place, outcome_number}
+use Rattle.client_desk.specs.Numbers.{fault_number, fault_place, outcome_number}
 use Rattle.host_places.specs.Opening.{id_said, identity_said, laid_out, layout_said}
 use Rattle.giqaymu_c.specs.declared.jobs.Grounds.{Grounds}
 use Rattle.giqaymu_c.specs.Jobs.{IsMutatorsRefusal, IsOpeningRefusal, IsOpeningWant, or_bad_rules, rules_given}

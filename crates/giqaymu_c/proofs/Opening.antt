@@ -8,10 +8,11 @@ use Rattle.std.proofs.lemmas.List.Elements.{All-pop}
 use mir.Val.{of_z, to_z}
 use Rattle.rebase.specs.Clients.{Grouped}
 use Rattle.rebase.specs.Configs.{Layout}
-use Rattle.host_places.specs.Numbers.{outcome_number}
+use Rattle.client_desk.specs.Numbers.{outcome_number}
 use Rattle.host_places.specs.Opening.{IsNew, layout_said}
-use Rattle.host_places.specs.Places.{DeskState, PlaceState}
-use Rattle.host_places.specs.declared.outcomes.Outcome.TheVariants.{Refused}
+use Rattle.host_places.specs.Desks.{DeskState}
+use Rattle.client_desk.specs.Places.{PlaceState}
+use Rattle.client_desk.specs.declared.outcomes.Outcome.TheVariants.{Refused}
 use Rattle.group_history.specs.declared.refusals.Refusal.TheVariants.{NoMemory}
 use Rattle.giqaymu_c.proofs.Cases.{below_or_not}
 use Rattle.giqaymu_c.specs.declared.handle.Handle.{Handle}

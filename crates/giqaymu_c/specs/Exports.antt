@@ -4,11 +4,11 @@ use Rattle.std.specs.Prelude.{slice_index_or, Option, Some, Ok, IsOk}
 use Rattle.std.specs.List.{All}
 use Rattle.group_history.specs.declared.refusals.Refusal.TheVariants.{NoMemory}
 use Rattle.group_history.specs.Map.{Bytes}
-use Rattle.host_places.specs.declared.faults.Fault.TheVariants.{OutOfRange}
-use Rattle.host_places.specs.declared.outcomes.Outcome.{Outcome}
-use Rattle.host_places.specs.declared.outcomes.Outcome.TheVariants.{Faulty, Refused}
+use Rattle.client_desk.specs.declared.faults.Fault.TheVariants.{OutOfRange}
+use Rattle.client_desk.specs.declared.outcomes.Outcome.{Outcome}
+use Rattle.client_desk.specs.declared.outcomes.Outcome.TheVariants.{Faulty, Refused}
 use Rattle.host_places.specs.Mutators.{Meant}
-use Rattle.host_places.specs.Numbers.{outcome_number}
+use Rattle.client_desk.specs.Numbers.{outcome_number}
 use Rattle.host_places.specs.Opening.{IsNew, layout_said}
 use Rattle.rebase.specs.Clients.{Grouped}
 use Rattle.rebase.specs.Configs.{Layout}
@@ -16,7 +16,7 @@ use Rattle.rule_mutators.specs.Faults.{fault_told, laid_over}
 use Rattle.giqaymu_c.specs.declared.exports.Answer.{Answer}
 use Rattle.giqaymu_c.specs.declared.handle.Handle.{Handle}
 use Rattle.giqaymu_c.specs.declared.jobs.Grounds.{Grounds}
-use Rattle.giqaymu_c.specs.declared.jobs.Numbered.{Numbered}
+use Rattle.host_places.specs.declared.numbered.Numbered.{Numbered}
 use Rattle.giqaymu_c.specs.declared.jobs.Reply.{Reply}
 use Rattle.giqaymu_c.specs.Jobs.{HasCalled, IsOpeningRefusal, asks_meant, rules_given}
 use Rattle.giqaymu_c.specs.Own.{Run}
@@ -53,7 +53,8 @@ IsLike one other = (other.text ≡ one.text) × (other.asks ≡ one.asks) × (ot
 
 -- ---- opening
 
--- the terms on which a group was opened: the text of its rules; whether the host has mutators of its own, and their runs
+-- the terms on which a group was opened: the text of its rules; whether the host has mutators of its own, and their
+-- runs
 pub record Terms : Type 0 where
   pub text : Bytes
   pub asks : Bool

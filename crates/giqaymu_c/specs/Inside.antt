@@ -1,7 +1,7 @@
 -- Words that only private clauses of this crate use.
 use Rattle.std.specs.Prelude.{◌≡◌, Option, Some, None}
 use Rattle.group_history.specs.declared.refusals.Refusal.TheVariants.{NoMemory}
-use Rattle.host_places.specs.declared.outcomes.Outcome.TheVariants.{Done, Refused}
+use Rattle.client_desk.specs.declared.outcomes.Outcome.TheVariants.{Done, Refused}
 use Rattle.giqaymu_c.specs.declared.jobs.Reply.{Reply}
 use Rattle.giqaymu_c.specs.Jobs.{RepliesBare}
 use Rattle.giqaymu_c.specs.Spots.{SpotState}

@@ -8,20 +8,21 @@ use Rattle.rebase.specs.Configs.{Layout}
 use Rattle.rule_mutators.specs.declared.faults.RuleFault.{RuleFault}
 use Rattle.rule_mutators.specs.Reading.{rules_or_none}
 use Rattle.rule_mutators.specs.Rules.{Rules}
-use Rattle.host_places.specs.declared.faults.Fault.TheVariants as fault
-use Rattle.host_places.specs.declared.outcomes.Outcome.{Outcome}
-use Rattle.host_places.specs.declared.outcomes.Outcome.TheVariants.{Done, Faulty, Refused}
-use Rattle.host_places.specs.Numbers.{MayAnswerNumbers, outcome_code, outcome_number, outcome_value}
+use Rattle.client_desk.specs.declared.faults.Fault.TheVariants as fault
+use Rattle.client_desk.specs.declared.outcomes.Outcome.{Outcome}
+use Rattle.client_desk.specs.declared.outcomes.Outcome.TheVariants.{Done, Faulty, Refused}
+use Rattle.host_places.specs.Numbers.{IsRunSaid, MayAnswerNumbers}
+use Rattle.client_desk.specs.Numbers.{outcome_code, outcome_number, outcome_value}
 use Rattle.host_places.specs.Opening.{AreOpened, IsWant, layout_said}
 use Rattle.host_places.specs.Asking.{ran_said}
 use Rattle.host_places.specs.Mutators.{Meant, has_of, means_of}
-use Rattle.host_places.specs.Places.{DeskState, PlaceState}
-use Rattle.host_places.specs.Runs.{IsRunTold}
-use Rattle.host_places.specs.Told.{told}
+use Rattle.host_places.specs.Desks.{DeskState}
+use Rattle.client_desk.specs.Places.{PlaceState}
+use Rattle.client_desk.specs.Told.{told}
 use Rattle.giqaymu_c.specs.declared.jobs.Grounds.{Grounds}
 use Rattle.giqaymu_c.specs.declared.jobs.Job.{Job}
 use Rattle.giqaymu_c.specs.declared.jobs.Job.TheVariants as job
-use Rattle.giqaymu_c.specs.declared.jobs.Numbered.{Numbered}
+use Rattle.host_places.specs.declared.numbered.Numbered.{Numbered}
 use Rattle.giqaymu_c.specs.declared.jobs.Reply.{Reply}
 use Rattle.giqaymu_c.specs.Own.{Run, runs_mean}
 use Rattle.giqaymu_c.specs.Spots.{SpotState, places_of}
@@ -77,7 +78,7 @@ IsMeantBy grounds meant = (meant.rules ≡ rules_meant grounds.rules.now) × (me
 -- none.
 abbrev pub IsToldByNumbers : Meant → ℕ → ℕ → ℕ → SpotState → Type 0
 IsToldByNumbers meant what m n spot = what ≡ 23
-    → IsRunTold (has_of meant) (means_of meant) spot.desk.place.asking (ran_said m n)
+    → IsRunSaid (has_of meant) (means_of meant) spot.desk.place.asking (ran_said m n)
 
 abbrev pub IsToldAsMeant : Meant → Numbered → SpotState → Type 0
 IsToldAsMeant meant call spot = IsToldByNumbers meant call.what call.m call.n spot
@@ -142,7 +143,7 @@ HasOpened grounds reply None = (e : Outcome) × RepliesBare e reply × IsOpening
 pub record CallsAt (meant : Meant) (call : Numbered) (before : PlaceState) (reply : Reply)
     (after : DeskState) : Type 0 where
   pub outcome : Outcome
-  pub answered : MayAnswerNumbers (has_of meant) (means_of meant) call.what call.m call.n call.a.now call.b.now before
+  pub answered : MayAnswerNumbers (has_of meant) (means_of meant) call before
       (told outcome after.bytes) after.place
   pub told : RepliesAt outcome after reply
 

@@ -1,6 +1,7 @@
 -- How a place of a host stands.
 use Rattle.std.specs.Prelude.{List, ◌∷◌, ◌++◌, [], map}
-use Rattle.host_places.specs.Places.{DeskState, PlaceState}
+use Rattle.host_places.specs.Desks.{DeskState}
+use Rattle.client_desk.specs.Places.{PlaceState}
 
 -- A desk, and those of its group that are not given out yet.
 pub record SpotState : Type 0 where

@@ -7,9 +7,9 @@ ghost use Rattle.giqaymu_c.specs.Exports.{IsOpeningFault, IsRefusedFor, TellsFau
 ghost use Rattle.giqaymu_c.specs.declared.jobs.Reply.{Reply as HostReply};
 
 use crate::handle::{Handle, act};
-use crate::jobs::{Grounds, Job, Numbered, Reply};
+use crate::jobs::{Grounds, Job, Reply};
 use group_history::Refusal;
-use host_places::{Fault, Opening, Outcome};
+use host_places::{Fault, Numbered, Opening, Outcome};
 use rule_mutators::tell_fault;
 use std::alloc::Global;
 

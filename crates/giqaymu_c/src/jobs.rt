@@ -1,8 +1,8 @@
 //! What is done to a place of a host.
 ghost use Rattle.std.specs.Prelude.{◌≡◌};
-ghost use Rattle.host_places.specs.Numbers.{outcome_code, outcome_number, outcome_value};
+ghost use Rattle.client_desk.specs.Numbers.{outcome_code, outcome_number, outcome_value};
 
-use host_places::{Opening, Outcome};
+use host_places::{Numbered, Opening, Outcome};
 
 /// A group that is opened, with its rules: a JSON text, or no bytes.
 #[derive(Clone, Copy)]
@@ -11,16 +11,6 @@ pub struct Grounds<'a> {
     pub rules: &'a [u8],
     /// 1: names without a rule are those of the host's own mutators; 0: those of scripts.
     pub own: u32,
-}
-
-/// A call, as C asks for it: which one, two numbers and two byte strings.
-#[derive(Clone, Copy)]
-pub struct Numbered<'a> {
-    pub what: u32,
-    pub m: u32,
-    pub n: u64,
-    pub a: &'a [u8],
-    pub b: &'a [u8],
 }
 
 /// What is done to a place.

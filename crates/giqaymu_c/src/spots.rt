@@ -6,9 +6,11 @@ ghost use Rattle.giqaymu_c.specs.Jobs.{Acts, Calls, Gives, HasCalled, HasGiven, 
 ghost use Rattle.giqaymu_c.specs.Jobs.{IsOpeningRefusal, IsRulesRefusal, IsToldAsMeant, Opens, RepliesAt, rules_given};
 
 use crate::held::Held;
-use crate::jobs::{Grounds, Job, Numbered, Reply};
+use crate::jobs::{Grounds, Job, Reply};
 use group_history::Refusal;
-use host_places::{Desk, Fault, HostMutators, Outcome, Picked, close_places, open_places};
+use host_places::{
+    Desk, Fault, HostMutators, Numbered, Outcome, Picked, close_places, open_places,
+};
 use rule_mutators::{RuleFault, Rules};
 use std::alloc::Global;
 use std::marker::Model;
@@ -133,9 +135,7 @@ impl<B: Picked + Sync> Spot<B> {
         requires { IsToldAsMeant B.meant call self.old }
         ensures { Calls B.meant call.entry self.old result self.new }
     {
-        let outcome = self
-            .desk
-            .call_numbered(call.what, call.m, call.n, call.a, call.b);
+        let outcome = self.desk.call_numbered(call);
         self.reply(outcome)
     }
 }

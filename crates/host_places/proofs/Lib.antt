@@ -1,11 +1,5 @@
-mod Asking
-mod Calm
-mod Joining
-mod Keeping
-mod Moving
 mod Mutating
+mod Numbering
 mod Opened
 mod Said
 pub mod Sharing
-mod Telling
-mod Watching

@@ -21,8 +21,8 @@ IsNamed held asks meant = ∥ (held ≡ meant.rules) × (asks ≡ meant.asks) �
 abbrev with_own : Rules → Bool → Meanings → Meant
 with_own held asks own = record { rules = held; asks = asks; own = own }
 
-as_named : (P : Meant → Type 0) (held : Rules) (asks : Bool) (meant : Meant) → IsProp (P meant) → IsNamed held asks meant
-    → P (with_own held asks meant.own) → P meant
+as_named : (P : Meant → Type 0) (held : Rules) (asks : Bool) (meant : Meant) → IsProp (P meant)
+    → IsNamed held asks meant → P (with_own held asks meant.own) → P meant
 as_named P held asks meant prop same is = ∥∥₁_elim same prop (λ e.
     subst (λ r. P (with_own r meant.asks meant.own)) e.0
     (subst (λ a. P (with_own held a meant.own)) e.1 is))

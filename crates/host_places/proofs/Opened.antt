@@ -9,7 +9,8 @@ use Rattle.head_word.specs.Books.{opening, opening_ref}
 use Rattle.rebase.specs.Clients.{AreOpening, AreSeatsOf, Grouped}
 use Rattle.rebase.specs.Configs.{Layout}
 use Rattle.host_places.specs.Opening.{AreOpened, IsNew}
-use Rattle.host_places.specs.Places.{DeskState, free_place}
+use Rattle.host_places.specs.Desks.{DeskState}
+use Rattle.client_desk.specs.Places.{free_place}
 
 -- the seat has seen the opening of its book alone
 abbrev pub SawOpening : ℕ → Seated → Type 0

@@ -11,9 +11,9 @@ use Rattle.group_history.specs.declared.scans.Start.{Start}
 use Rattle.group_history.specs.declared.scans.Start.TheVariants.{Any, At, After}
 use Rattle.group_history.specs.Json.{json_text}
 use Rattle.group_history.specs.Map.{Bytes}
-use Rattle.host_places.specs.declared.outcomes.Outcome.{Outcome}
-use Rattle.host_places.specs.declared.outcomes.Outcome.TheVariants.{Faulty, Refused}
-use Rattle.host_places.specs.declared.faults.Fault.TheVariants.{BadUuid, NotUtf8, OutOfRange}
+use Rattle.client_desk.specs.declared.outcomes.Outcome.{Outcome}
+use Rattle.client_desk.specs.declared.outcomes.Outcome.TheVariants.{Faulty, Refused}
+use Rattle.client_desk.specs.declared.faults.Fault.TheVariants.{BadUuid, NotUtf8, OutOfRange}
 
 infixl 10 ◌>>=◌
 abbrev pub ◌>>=◌ : {A B : Type 0} → Result A Outcome → (A → Result B Outcome) → Result B Outcome
@@ -75,6 +75,10 @@ scan_said prefix kind start limit =
 -- a mutator's name and its arguments
 abbrev pub named_said : Bytes → Bytes → Result (Bytes × Bytes) Outcome
 named_said name args = text_said name >>= (λ n. json_said args >>= (λ json. Ok (n, json)))
+
+-- a key and a value for it
+abbrev pub put_said : Bytes → Bytes → Result (Bytes × Bytes) Outcome
+put_said key value = text_said key >>= (λ k. json_said value >>= (λ json. Ok (k, json)))
 
 -- how a run ended: 0 done, 1 refused with a code, which has 32 bits, 2 unknown
 abbrev pub code_said : ℕ → Result Ran Outcome

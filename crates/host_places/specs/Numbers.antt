@@ -1,108 +1,78 @@
--- How calls are asked for, and what they came to is told, by numbers.
-use Rattle.std.specs.Prelude.{ℕ, ◌≡◌, ◌⊎◌, ◌<◌, Bool, true, false, ℤ, pos, negsuc}
-use Rattle.group_history.specs.declared.refusals.Refusal.{Refusal}
-use Rattle.group_history.specs.declared.refusals.Refusal.TheVariants as refusal
-use Rattle.group_history.specs.declared.responses.VersionKind.{VersionKind}
-use Rattle.group_history.specs.declared.responses.VersionKind.TheVariants as kind
+-- How calls are asked for by numbers.
+use Rattle.std.specs.Prelude.{ℕ, ◌≡◌, ◌⊎◌, ◌<◌, ⊤, Bool, Option, Result, Ok, Err}
+use Rattle.group_history.specs.declared.mutators.Ran.{Ran}
+use Rattle.group_history.specs.declared.refusals.Refusal.TheVariants.{NoMemory}
 use Rattle.group_history.specs.Map.{Bytes}
-use Rattle.group_history.specs.Refusals.{refusal_number}
 use Rattle.group_history.specs.Meaning.{Meanings}
-use Rattle.host_places.specs.declared.asked.Asked.{Asked}
-use Rattle.host_places.specs.declared.asked.Asked.TheVariants as asked
-use Rattle.host_places.specs.declared.faults.Fault.{Fault}
-use Rattle.host_places.specs.declared.faults.Fault.TheVariants as fault
-use Rattle.host_places.specs.declared.outcomes.Outcome.{Outcome}
-use Rattle.host_places.specs.declared.outcomes.Outcome.TheVariants as outcome
-use Rattle.host_places.specs.Answers.{Rule, Tells}
-use Rattle.host_places.specs.Calls.{MayAnswer}
+use Rattle.rebase.specs.Running.{UnderWay}
+use Rattle.client_desk.specs.declared.calls.Call.{Call}
+use Rattle.client_desk.specs.declared.calls.Call.TheVariants as call
+use Rattle.client_desk.specs.declared.calls.Keep.TheVariants.{AtNext}
+use Rattle.client_desk.specs.declared.faults.Fault.TheVariants.{OutOfRange}
+use Rattle.client_desk.specs.declared.outcomes.Outcome.{Outcome}
+use Rattle.client_desk.specs.declared.outcomes.Outcome.TheVariants.{Faulty, Refused}
+use Rattle.client_desk.specs.Answers.{Rule, Tells}
+use Rattle.client_desk.specs.Calls.{MayAnswer}
+use Rattle.client_desk.specs.Runs.{IsRunTold}
+use Rattle.host_places.specs.declared.numbered.Numbered.{Numbered}
+use Rattle.host_places.specs.Asking.{named_said, put_said, ran_said, scan_said, text_said, uuid_said}
 
 -- The numbers of a call: which one it is, then what it is given. What it doesn't use is not looked at.
-abbrev pub IsCall : Asked → ℕ → ℕ → ℕ → Bytes → Bytes → Type 0
-IsCall (asked.Sit id) what m n a b = (what ≡ 0) × (id.now ≡ a)
-IsCall asked.Leave what m n a b = what ≡ 1
-IsCall (asked.Get key) what m n a b = (what ≡ 2) × (key.now ≡ a)
-IsCall (asked.Has key) what m n a b = (what ≡ 3) × (key.now ≡ a)
-IsCall (asked.Scan r) what m n a b = (what ≡ 4) × (r.prefix.now ≡ a) × (r.kind ≡ m) × (r.start.now ≡ b) × (r.limit ≡ n)
-IsCall asked.Pending what m n a b = what ≡ 5
-IsCall asked.Cookie what m n a b = what ≡ 6
-IsCall asked.Closed what m n a b = what ≡ 7
-IsCall asked.Refresh what m n a b = what ≡ 8
-IsCall asked.Push what m n a b = what ≡ 9
-IsCall asked.Begin what m n a b = what ≡ 10
-IsCall (asked.Forget t) what m n a b = (what ≡ 11) × (t ≡ m)
-IsCall (asked.End t body) what m n a b = (what ≡ 12) × (t ≡ m) × (body.now ≡ a)
-IsCall (asked.Mutate g) what m n a b = (what ≡ 13) × (g.name.now ≡ a) × (g.args.now ≡ b) × (g.time ≡ n)
-IsCall (asked.Watch r) what m n a b = (what ≡ 14) × (r.prefix.now ≡ a) × (r.kind ≡ m) × (r.start.now ≡ b)
-    × (r.limit ≡ n)
-IsCall (asked.Poll w) what m n a b = (what ≡ 15) × (w ≡ m)
-IsCall asked.AskedName what m n a b = what ≡ 16
-IsCall asked.AskedArgs what m n a b = what ≡ 17
-IsCall (asked.DraftGet key) what m n a b = (what ≡ 18) × (key.now ≡ a)
-IsCall (asked.DraftHas key) what m n a b = (what ≡ 19) × (key.now ≡ a)
-IsCall (asked.DraftScan r) what m n a b = (what ≡ 20) × (r.prefix.now ≡ a) × (r.kind ≡ m) × (r.start.now ≡ b)
-    × (r.limit ≡ n)
-IsCall (asked.DraftPut key value) what m n a b = (what ≡ 21) × (key.now ≡ a) × (value.now ≡ b)
-IsCall (asked.DraftDel key) what m n a b = (what ≡ 22) × (key.now ≡ a)
-IsCall (asked.Ran kind code) what m n a b = (what ≡ 23) × (kind ≡ m) × (code ≡ n)
-IsCall asked.GiveUp what m n a b = what ≡ 24
+abbrev pub IsCall : Call → ℕ → ℕ → ℕ → Bytes → Bytes → Type 0
+IsCall (call.Sit id) what m n a b = (what ≡ 0) × (uuid_said a ≡ Ok id.now)
+IsCall call.Leave what m n a b = what ≡ 1
+IsCall (call.Get key) what m n a b = (what ≡ 2) × (text_said a ≡ Ok key.now)
+IsCall (call.Has key) what m n a b = (what ≡ 3) × (text_said a ≡ Ok key.now)
+IsCall (call.Scan scan) what m n a b = (what ≡ 4) × (scan_said a m b n ≡ Ok scan.now)
+IsCall call.Pending what m n a b = what ≡ 5
+IsCall call.Cookie what m n a b = what ≡ 6
+IsCall call.Closed what m n a b = what ≡ 7
+IsCall call.Refresh what m n a b = what ≡ 8
+IsCall call.Push what m n a b = what ≡ 9
+IsCall (call.Begin keep) what m n a b = (what ≡ 10) × (keep ≡ AtNext)
+IsCall (call.Forget t) what m n a b = (what ≡ 11) × (t ≡ m)
+IsCall (call.End t body) what m n a b = (what ≡ 12) × (t ≡ m) × (body.now ≡ a)
+IsCall (call.Mutate x) what m n a b = (what ≡ 13) × (named_said a b ≡ Ok (x.name.now, x.args.now)) × (x.time ≡ n)
+IsCall (call.Watch keep scan) what m n a b = (what ≡ 14) × (keep ≡ AtNext) × (scan_said a m b n ≡ Ok scan.now)
+IsCall (call.Poll w) what m n a b = (what ≡ 15) × (w ≡ m)
+IsCall call.AskedName what m n a b = what ≡ 16
+IsCall call.AskedArgs what m n a b = what ≡ 17
+IsCall (call.DraftGet key) what m n a b = (what ≡ 18) × (text_said a ≡ Ok key.now)
+IsCall (call.DraftHas key) what m n a b = (what ≡ 19) × (text_said a ≡ Ok key.now)
+IsCall (call.DraftScan scan) what m n a b = (what ≡ 20) × (scan_said a m b n ≡ Ok scan.now)
+IsCall (call.DraftPut key value) what m n a b = (what ≡ 21) × (put_said a b ≡ Ok (key.now, value.now))
+IsCall (call.DraftDel key) what m n a b = (what ≡ 22) × (text_said a ≡ Ok key.now)
+IsCall (call.Ran ran) what m n a b = (what ≡ 23) × (ran_said m n ≡ Ok ran)
+IsCall call.GiveUp what m n a b = what ≡ 24
+IsCall other what m n a b = ⊥
 
--- The call of these numbers is answered; a number above 24 is that of no call.
-abbrev pub MayAnswerNumbers : (Bytes → Bool) → Meanings → ℕ → ℕ → ℕ → Bytes → Bytes → Rule
-MayAnswerNumbers has means what m n a b before t after =
-    ((x : Asked) × IsCall x what m n a b × MayAnswer has means x before t after)
-    ⊎ ((24 < what) × Tells (outcome.Faulty fault.OutOfRange) before t after)
+-- a call that has a key, and one that has a scan
+abbrev pub HasKey : ℕ → Type 0
+HasKey what = (what ≡ 2) ⊎ (what ≡ 3) ⊎ (what ≡ 18) ⊎ (what ≡ 19) ⊎ (what ≡ 22)
 
--- The number of a refusal is the group's; a mutator's code and the kind of a version are told beside it.
-abbrev pub kind_number : VersionKind → ℕ
-kind_number kind.Push = 1
-kind_number kind.Pull = 2
-kind_number kind.Schema = 3
-kind_number kind.Unknown = 0
+abbrev pub HasScan : ℕ → Type 0
+HasScan what = (what ≡ 4) ⊎ (what ≡ 14) ⊎ (what ≡ 20)
 
-abbrev pub refusal_code : Refusal → ℕ
-refusal_code (refusal.Refused code) = code
-refusal_code (refusal.VersionNotSupported kind) = kind_number kind
-refusal_code e = 0
+-- what the call is given says nothing, and this is told; or there is no such call
+abbrev pub SaysNothing : ℕ → ℕ → ℕ → Bytes → Bytes → Outcome → Type 0
+SaysNothing what m n a b e =
+    ((what ≡ 0) × (uuid_said a ≡ Err e)) ⊎ (HasKey what × (text_said a ≡ Err e))
+    ⊎ (HasScan what × (scan_said a m b n ≡ Err e)) ⊎ ((what ≡ 13) × (named_said a b ≡ Err e))
+    ⊎ ((what ≡ 21) × (put_said a b ≡ Err e)) ⊎ ((what ≡ 23) × (ran_said m n ≡ Err e))
+    ⊎ ((24 < what) × (e ≡ Faulty OutOfRange))
 
--- how many numbers below -1 that of a fault is
-abbrev pub fault_place : Fault → ℕ
--- by tools/refusals: place cases of faults
-fault_place fault.NotUtf8 = 100
-fault_place fault.BadUuid = 101
-fault_place fault.OutOfRange = 102
-fault_place fault.NoTicket = 103
-fault_place fault.NoWatch = 104
-fault_place fault.BadRules = 105
-fault_place fault.InUse = 106
-fault_place fault.Asks = 107
-fault_place fault.NoClient = 108
-fault_place fault.NoPlace = 109
-fault_place fault.NotAsked = 110
+-- memory is taken for what it is given
+abbrev pub IsCopied : ℕ → Type 0
+IsCopied what = HasScan what ⊎ (what ≡ 13) ⊎ (what ≡ 21)
 
--- tools/refusals: end
+-- The call of these numbers is answered, if what it is given says something; memory may be refused for that.
+abbrev pub MayAnswerNumbers : (Bytes → Bool) → Meanings → Numbered → Rule
+MayAnswerNumbers has means x before t after =
+    ((c : Call) × IsCall c x.what x.m x.n x.a.now x.b.now × MayAnswer has means c before t after)
+    ⊎ ((e : Outcome) × SaysNothing x.what x.m x.n x.a.now x.b.now e × Tells e before t after)
+    ⊎ (IsCopied x.what × Tells (Refused NoMemory) before t after)
 
-abbrev pub fault_number : Fault → ℤ
-fault_number e = negsuc (fault_place e)
-
-abbrev pub is_number : Bool → ℤ
-is_number true = pos 2
-is_number false = pos 0
-
--- what a call came to: 0 or above where it was done
-abbrev pub outcome_number : Outcome → ℤ
-outcome_number outcome.Done = pos 0
-outcome_number (outcome.Number n) = pos 0
-outcome_number outcome.Nothing = pos 1
-outcome_number (outcome.Is is) = is_number is
-outcome_number outcome.Asked = pos 3
-outcome_number (outcome.Refused e) = refusal_number e
-outcome_number (outcome.Faulty e) = fault_number e
-
--- the number that it tells, and the code of a refusal
-abbrev pub outcome_value : Outcome → ℕ
-outcome_value (outcome.Number n) = n
-outcome_value other = 0
-
-abbrev pub outcome_code : Outcome → ℕ
-outcome_code (outcome.Refused e) = refusal_code e
-outcome_code other = 0
+-- the run that the numbers say is one of the group's meaning; where they say no end, nothing has to hold
+abbrev pub IsRunSaid : (Bytes → Bool) → Meanings → Option UnderWay → Result Ran Outcome → Type 0
+IsRunSaid has means asking (Ok ran) = IsRunTold has means asking ran
+IsRunSaid has means asking (Err e) = ⊤

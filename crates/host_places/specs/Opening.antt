@@ -10,12 +10,12 @@ use Rattle.rebase.specs.declared.config.OutOfRange.{OutOfRange}
 use Rattle.rebase.specs.Clients.{Grouped}
 use Rattle.rebase.specs.Configs.{Layout, out_of_range}
 use Rattle.uuid.specs.Text.{hyphenated_text, lower}
-use Rattle.host_places.specs.declared.faults.Fault.TheVariants as fault
+use Rattle.client_desk.specs.declared.faults.Fault.TheVariants as fault
 use Rattle.host_places.specs.declared.opening.Opening.{Opening}
-use Rattle.host_places.specs.declared.outcomes.Outcome.{Outcome}
-use Rattle.host_places.specs.declared.outcomes.Outcome.TheVariants.{Faulty, Refused}
+use Rattle.client_desk.specs.declared.outcomes.Outcome.{Outcome}
+use Rattle.client_desk.specs.declared.outcomes.Outcome.TheVariants.{Faulty, Refused}
 use Rattle.host_places.specs.Asking.{◌>>=◌, text_said, uuid_said}
-use Rattle.host_places.specs.Places.{PlaceState, free_place}
+use Rattle.client_desk.specs.Places.{PlaceState, free_place}
 
 -- whose requests the group writes: its ID is a UUID, the others are texts
 abbrev pub id_said : Bytes → Result Bytes Outcome

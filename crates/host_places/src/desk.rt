@@ -1,25 +1,24 @@
-//! A place, and the bytes that its last call told.
+//! A place of a host, and the bytes that its last call told.
 ghost use Rattle.std.specs.Prelude.{◌≡◌};
-ghost use Rattle.host_places.specs.Calls.{MayAnswer};
-ghost use Rattle.host_places.specs.Closing.{Closes};
+ghost use Rattle.client_desk.specs.Answers.{Tells};
+ghost use Rattle.client_desk.specs.Calls.{MayAnswer};
+ghost use Rattle.client_desk.specs.Closing.{Closes};
+ghost use Rattle.client_desk.specs.Drafts.{HasRunAsMeant};
+ghost use Rattle.client_desk.specs.Told.{told};
 ghost use Rattle.host_places.specs.Asking.{ran_said};
-ghost use Rattle.host_places.specs.Drafts.{HasRunAsMeant};
-ghost use Rattle.host_places.specs.Numbers.{MayAnswerNumbers};
-ghost use Rattle.host_places.specs.Runs.{IsRunTold};
-ghost use Rattle.host_places.specs.Told.{told};
+ghost use Rattle.host_places.specs.Numbers.{HasKey, HasScan, IsRunSaid, MayAnswerNumbers};
 
-use crate::asked::Asked;
-use crate::faults::Fault;
-use crate::mutators::{HostRuns, Hosted};
-use crate::outcomes::Outcome;
-use crate::place::Place;
+use crate::numbered::{Numbered, key_call, scan_call};
+use crate::texts::{named_of, put_of, ran_of, scan_of, str_of, uuid_of};
+use client_desk::{Call, Fault, HostRuns, Hosted, Keep, Mutate, Outcome, Place};
 use rebase::{Arena, Seat};
 use std::alloc::Global;
 use std::marker::Model;
 
-/// A place, and the bytes that its last call told, which lie there until the next one. It can't be dropped: it is closed,
-/// by `close` or with others by `close_places`.
+/// A place, and the bytes that its last call told, which lie there until the next one. It can't be dropped: it is
+/// closed, by `close` or with others by `close_places`.
 pub struct Desk<M: Hosted> {
+    alloc: Global,
     place: Place<M>,
     bytes: Vec<u8>,
 }
@@ -31,7 +30,7 @@ impl<M: Hosted> Model for Desk<M> {
     ghost use Rattle.group_history.specs.contracts.mutations.Mutation as the_mutation;
     ghost use Rattle.head_word.specs.contracts.entry.Entry as entry;
     ghost use Rattle.group_steps.specs.Rooting.{entries_coded};
-    ghost use Rattle.host_places.specs.Places.{DeskState};
+    ghost use Rattle.host_places.specs.Desks.{DeskState};
 
     ghost Value = { DeskState };
 
@@ -45,6 +44,7 @@ impl<M: Hosted> Desk<M> {
         ensures { result.place ≡ place }
     {
         Desk {
+            alloc,
             place,
             bytes: Vec::new(alloc),
         }
@@ -54,7 +54,11 @@ impl<M: Hosted> Desk<M> {
     pub fn close(self) -> Option<Seat<M, Arena<M>>>
         ensures { Closes M.means self.place result }
     {
-        let Desk { place, bytes: _ } = self;
+        let Desk {
+            alloc: _,
+            place,
+            bytes: _,
+        } = self;
         place.close()
     }
 
@@ -71,31 +75,131 @@ impl<M: Hosted> Desk<M> {
     {
         self.bytes.as_ptr()
     }
+
+    // Nothing is done: what the call was given says nothing, or memory was refused for it.
+    fn refuse(&mut self, outcome: Outcome) -> Outcome
+        ensures { Tells outcome self.old.place (told result self.new.bytes) self.new.place }
+    {
+        self.bytes.clear();
+        outcome
+    }
 }
 
 impl<M: HostRuns> Desk<M> {
-    /// Makes a call. Where it tells that a run has ended, the run is one of what the group's mutators mean.
-    pub fn call(&mut self, asked: Asked<'_>) -> Outcome
-        requires { HasRunAsMeant M.had M.means self.old.place asked }
-        ensures { MayAnswer M.had M.means asked.entry self.old.place (told result self.new.bytes) self.new.place }
+    fn call(&mut self, call: Call<'_>) -> Outcome
+        requires { HasRunAsMeant M.had M.means self.old.place call }
+        ensures { MayAnswer M.had M.means call.entry self.old.place (told result self.new.bytes) self.new.place }
     {
         self.bytes.clear();
-        self.place.call(asked, &mut self.bytes)
+        self.place.call(call, &mut self.bytes)
+    }
+
+    fn sit(&mut self, asked: Numbered<'_>) -> Outcome
+        requires { asked.what ≡ 0 }
+        ensures { MayAnswerNumbers M.had M.means asked.entry self.old.place (told result self.new.bytes)
+            self.new.place }
+    {
+        match uuid_of(asked.a) {
+            Ok(id) => self.call(Call::Sit(&id)),
+            Err(outcome) => self.refuse(outcome),
+        }
+    }
+
+    fn call_key(&mut self, asked: Numbered<'_>) -> Outcome
+        requires { HasKey asked.what }
+        ensures { MayAnswerNumbers M.had M.means asked.entry self.old.place (told result self.new.bytes)
+            self.new.place }
+    {
+        match str_of(asked.a) {
+            Ok(key) => self.call(key_call(asked.what, key)),
+            Err(outcome) => self.refuse(outcome),
+        }
+    }
+
+    fn call_scan(&mut self, asked: Numbered<'_>) -> Outcome
+        requires { HasScan asked.what }
+        ensures { MayAnswerNumbers M.had M.means asked.entry self.old.place (told result self.new.bytes)
+            self.new.place }
+    {
+        match scan_of(self.alloc, asked.a, asked.m, asked.b, asked.n) {
+            Ok(scan) => self.call(scan_call(asked.what, &scan)),
+            Err(outcome) => self.refuse(outcome),
+        }
+    }
+
+    fn mutate(&mut self, asked: Numbered<'_>) -> Outcome
+        requires { asked.what ≡ 13 }
+        ensures { MayAnswerNumbers M.had M.means asked.entry self.old.place (told result self.new.bytes)
+            self.new.place }
+    {
+        match named_of(self.alloc, asked.a, asked.b) {
+            Ok((name, args)) => self.call(Call::Mutate(Mutate {
+                name: &name,
+                args: &args,
+                time: asked.n,
+            })),
+            Err(outcome) => self.refuse(outcome),
+        }
+    }
+
+    fn put(&mut self, asked: Numbered<'_>) -> Outcome
+        requires { asked.what ≡ 21 }
+        ensures { MayAnswerNumbers M.had M.means asked.entry self.old.place (told result self.new.bytes)
+            self.new.place }
+    {
+        match put_of(self.alloc, asked.a, asked.b) {
+            Ok((key, value)) => self.call(Call::DraftPut(key, &value)),
+            Err(outcome) => self.refuse(outcome),
+        }
+    }
+
+    fn ran(&mut self, asked: Numbered<'_>) -> Outcome
+        requires what { asked.what ≡ 23 }
+        requires run { IsRunSaid M.had M.means self.old.place.asking (ran_said asked.m asked.n) }
+        ensures { MayAnswerNumbers M.had M.means asked.entry self.old.place (told result self.new.bytes)
+            self.new.place }
+    {
+        match ran_of(asked.m, asked.n) {
+            Ok(ran) => self.call(Call::Ran(ran)),
+            Err(outcome) => self.refuse(outcome),
+        }
     }
 
     /// Makes the call of these numbers and bytes. A number above 24 is that of no call. Where it tells that a run has
     /// ended, the run is one of what the group's mutators mean.
-    pub fn call_numbered(&mut self, what: u32, m: u32, n: u64, a: &[u8], b: &[u8]) -> Outcome
-        requires { what ≡ 23 → IsRunTold M.had M.means self.old.place.asking (ran_said m n) }
-        ensures { MayAnswerNumbers M.had M.means what m n a.now b.now self.old.place (told result self.new.bytes)
+    pub fn call_numbered(&mut self, asked: Numbered<'_>) -> Outcome
+        requires { asked.what ≡ 23
+            → IsRunSaid M.had M.means self.old.place.asking (ran_said asked.m asked.n) }
+        ensures { MayAnswerNumbers M.had M.means asked.entry self.old.place (told result self.new.bytes)
             self.new.place }
     {
-        match Asked::of(what, m, n, a, b) {
-            Some(asked) => self.call(asked),
-            None => {
-                self.bytes.clear();
-                Outcome::Faulty(Fault::OutOfRange)
-            }
+        match asked.what {
+            0 => self.sit(asked),
+            1 => self.call(Call::Leave),
+            2 => self.call_key(asked),
+            3 => self.call_key(asked),
+            4 => self.call_scan(asked),
+            5 => self.call(Call::Pending),
+            6 => self.call(Call::Cookie),
+            7 => self.call(Call::Closed),
+            8 => self.call(Call::Refresh),
+            9 => self.call(Call::Push),
+            10 => self.call(Call::Begin(Keep::AtNext)),
+            11 => self.call(Call::Forget(asked.m as usize)),
+            12 => self.call(Call::End(asked.m as usize, asked.a)),
+            13 => self.mutate(asked),
+            14 => self.call_scan(asked),
+            15 => self.call(Call::Poll(asked.m as usize)),
+            16 => self.call(Call::AskedName),
+            17 => self.call(Call::AskedArgs),
+            18 => self.call_key(asked),
+            19 => self.call_key(asked),
+            20 => self.call_scan(asked),
+            21 => self.put(asked),
+            22 => self.call_key(asked),
+            23 => self.ran(asked),
+            24 => self.call(Call::GiveUp),
+            _ => self.refuse(Outcome::Faulty(Fault::OutOfRange)),
         }
     }
 }

@@ -3,12 +3,12 @@
 //! Rules are run by the call itself. A name without a rule is a mutator of scripts, or, where the host has mutators of
 //! its own, one of these: then a change asks the host for the run. What those mean is named by a type parameter, and
 //! that the host's runs are of that meaning is the premise of each run that it tells of.
-ghost use Rattle.std.specs.Prelude.{◌≡◌, [], Bool, false, refl};
-ghost use Rattle.group_history.specs.Map.{Bytes};
+ghost use Rattle.std.specs.Prelude.{◌≡◌, [], false, refl};
 ghost use Rattle.group_history.specs.Meaning.{unknown};
 ghost use Rattle.rule_mutators.specs.Views.{rules_of};
 ghost use Rattle.host_places.specs.Mutators.{Meant, has_of, means_of};
 
+use client_desk::{HostRuns, Hosted};
 use group_history::{Json, Means, Mutators, Ran, Reason, Stop, WriteView};
 use rebase::{Has, Runs};
 use rule_mutators::Rules;
@@ -23,17 +23,6 @@ pub trait Picked {
 
 impl Picked for Brand {
     ghost meant = { record { rules = []; asks = false; own = λ name args why map. unknown } };
-}
-
-/// Mutators of a group at whose places hosts sit: which of them the group runs itself. There is no bound here that
-/// other threads rely on, so that a drop can close places.
-pub trait Hosted: Means + Drop {
-    ghost had: { Bytes → Bool };
-}
-
-/// Those it runs, and asks its host for runs of others.
-pub trait HostRuns: Hosted + Runs {
-    ghost same: { Self.has ≡ Self.had };
 }
 
 /// Rules; and whether a name without one is a mutator of the host's own. They are those that `B` names.

@@ -9,14 +9,11 @@ ghost use Rattle.rebase.specs.Configs.{Layout};
 ghost use Rattle.host_places.specs.Asking.{IsSaid};
 ghost use Rattle.host_places.specs.Inside.Filling.{IsAdded};
 ghost use Rattle.host_places.specs.Opening.{AreOpened, IsNew, IsWant, id_said, identity_said, layout_for};
-ghost use Rattle.host_places.specs.Places.{free_place};
+ghost use Rattle.client_desk.specs.Places.{free_place};
 
 use crate::desk::Desk;
-use crate::faults::Fault;
-use crate::mutators::Hosted;
-use crate::outcomes::Outcome;
-use crate::place::Place;
 use crate::texts::{text_of, uuid_of};
+use client_desk::{Fault, Hosted, Outcome, Place};
 use group_history::{Refusal, Text};
 use rebase::{Arena, Config, Group, Identity, Seat, Seats, Uuid};
 use std::alloc::{AllocError, AllocFailed, Global};

@@ -1,12 +1,10 @@
 //! What the bytes of a host say.
 ghost use Rattle.std.specs.Prelude.{◌≡◌};
-ghost use Rattle.host_places.specs.Asking.{IsSaid, json_said, limit_said, map_said, named_said, scan_said, start_said};
-ghost use Rattle.host_places.specs.Asking.{text_said, uuid_said};
+ghost use Rattle.host_places.specs.Asking.{IsSaid, json_said, limit_said, map_said, named_said, put_said, ran_said};
+ghost use Rattle.host_places.specs.Asking.{scan_said, start_said, text_said, uuid_said};
 
-use crate::asked::{Named, Range};
-use crate::faults::Fault;
-use crate::outcomes::Outcome;
-use group_history::{Json, Refusal, Scan, Start, Text};
+use client_desk::{Fault, Outcome};
+use group_history::{Json, Ran, Refusal, Scan, Start, Text};
 use rebase::Uuid;
 use std::alloc::Global;
 
@@ -75,23 +73,55 @@ fn limit_of(limit: u64) -> Option<u64>
     if limit == u64::MAX { None } else { Some(limit) }
 }
 
-pub(crate) fn scan_of(alloc: Global, range: Range<'_>) -> Result<Scan, Outcome>
-    ensures { IsSaid result (scan_said range.entry.prefix.now range.entry.kind range.entry.start.now
-        range.entry.limit) }
+/// The scan of a prefix, of a start by its kind and its key, and of a limit.
+pub(crate) fn scan_of(
+    alloc: Global,
+    prefix: &[u8],
+    kind: u32,
+    start: &[u8],
+    limit: u64,
+) -> Result<Scan, Outcome>
+    ensures { IsSaid result (scan_said prefix.now kind start.now limit) }
 {
-    let prefix = text_of(alloc, range.prefix)?;
-    let start = start_of(alloc, range.kind, range.start)?;
+    let prefix = text_of(alloc, prefix)?;
+    let start = start_of(alloc, kind, start)?;
     Ok(Scan {
         prefix,
         start,
-        limit: limit_of(range.limit),
+        limit: limit_of(limit),
     })
 }
 
-pub(crate) fn named_of(alloc: Global, named: Named<'_>) -> Result<(Text, Json), Outcome>
-    ensures { IsSaid result (named_said named.entry.name.now named.entry.args.now) }
+/// A mutator's name, and its arguments.
+pub(crate) fn named_of(alloc: Global, name: &[u8], args: &[u8]) -> Result<(Text, Json), Outcome>
+    ensures { IsSaid result (named_said name.now args.now) }
 {
-    let name = text_of(alloc, named.name)?;
-    let args = json_of(alloc, named.args)?;
+    let name = text_of(alloc, name)?;
+    let args = json_of(alloc, args)?;
     Ok((name, args))
+}
+
+/// A key and a value for it.
+pub(crate) fn put_of<'a>(
+    alloc: Global,
+    key: &'a [u8],
+    value: &[u8],
+) -> Result<(&'a str, Json), Outcome>
+    ensures { IsSaid (map_said (λ said. (said.0.now, said.1)) result) (put_said key.now value.now) }
+{
+    let key = str_of(key)?;
+    let value = json_of(alloc, value)?;
+    Ok((key, value))
+}
+
+/// How a run ended, by its numbers: 0 is done, 1 refused with a code, 2 is that there is no such mutator.
+pub(crate) fn ran_of(kind: u32, code: u64) -> Result<Ran, Outcome>
+    ensures { result ≡ ran_said kind code }
+{
+    match kind {
+        0 => Ok(Ran::Done),
+        1 if code <= u32::MAX as u64 => Ok(Ran::Refused(code as u32)),
+        2 => Ok(Ran::Unknown),
+        _ => Err(Outcome::Faulty(Fault::OutOfRange)),
+    }
 }

@@ -2,7 +2,8 @@
 use Rattle.std.specs.Prelude.{◌≡◌, ◌++◌, ◌∷◌, [], List}
 use Rattle.commit_graph.specs.Seats.{Seated}
 use Rattle.rebase.specs.Clients.{Grouped}
-use Rattle.host_places.specs.Places.{DeskState, free_place}
+use Rattle.host_places.specs.Desks.{DeskState}
+use Rattle.client_desk.specs.Places.{free_place}
 
 -- one more was made, at which nobody sits yet
 abbrev pub IsAdded : Grouped → Seated → List DeskState → List DeskState → Type 0

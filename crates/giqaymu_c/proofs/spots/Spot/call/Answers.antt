@@ -10,4 +10,5 @@ call_numbered-outcome-requires-sync-M g c κs within = param_sync _ _ (arg_sync 
 pub returns : goal.returns
 returns g c =
     calls_of g.B.Picked.meant c.args.call c.call_numbered-outcome.result c.self.inside.desk
-    c.call_numbered-outcome.new.self c.self.inside.spare.items c.args.self.now c.reply.result c.self.view_is c.call_numbered-outcome.ensures c.reply.ensures
+    c.call_numbered-outcome.new.self c.self.inside.spare.items c.args.self.now c.reply.result c.self.view_is
+    c.call_numbered-outcome.ensures c.reply.ensures

@@ -1,0 +1,9 @@
+mod Asking
+mod Calm
+mod Joining
+mod Keeping
+mod Moving
+mod Numbers
+mod Telling
+mod Waits
+mod Watching

@@ -1,0 +1,230 @@
+-- What each call that is no change may tell where no run is asked for, and how it leaves the place.
+--
+-- A client's own call is made, as `rebase` says it, and its reply is told. Where nobody sits there, or a number names
+-- nothing, that is told, and the place is as it was.
+use Rattle.std.specs.Prelude.{ℕ, ◌≡◌, ◌⊎◌, ⊤, List, Option, Some, None, Result, Ok, Err}
+use Rattle.std.specs.Prelude.{IfErr, IfOk, slice_set}
+use Rattle.group_history.specs.declared.refusals.Refusal.{Refusal}
+use Rattle.group_history.specs.declared.scans.Scan.{Scan}
+use Rattle.group_history.specs.Map.{Bytes}
+use Rattle.group_history.specs.Meaning.{Meanings}
+use Rattle.group_history.specs.Queries.{get_at, has_at, is_empty_at, view_rows}
+use Rattle.group_history.specs.State.{State, last_id}
+use Rattle.push_body.specs.Bodies.{push_text}
+use Rattle.answered.specs.Answered.{IsAnswered, IsLeft, IsLinearized, no_change}
+use Rattle.chunk_slots.specs.Seats.{IsIdle}
+use Rattle.commit_graph.specs.Seats.{HasLooked, Seated}
+use Rattle.group_steps.specs.Missing.{IsMissedOrDry, IsStoreRefusal}
+use Rattle.rebase.specs.Clients.{ClientState, Looks, Rests, Stays}
+use Rattle.rebase.specs.Queries.{asked_at, Asked as Begun}
+use Rattle.rebase.specs.Watching.{Watched, poll_at, watch_after}
+use Rattle.rebase.specs.declared.tickets.Ticket.{Ticket}
+use Rattle.rebase.specs.declared.watching.Polled.{Polled}
+use Rattle.uuid.specs.Text.{hyphenated_text, lower}
+use Rattle.client_desk.specs.declared.calls.Call.{Call}
+use Rattle.client_desk.specs.declared.calls.Call.TheVariants as call
+use Rattle.client_desk.specs.declared.faults.Fault.{Fault}
+use Rattle.client_desk.specs.declared.outcomes.Outcome.{Outcome}
+use Rattle.client_desk.specs.declared.outcomes.Outcome.TheVariants.{Done, Faulty, Number, Refused}
+use Rattle.client_desk.specs.declared.faults.Fault.TheVariants as fault
+use Rattle.client_desk.specs.declared.calls.Keep.{Keep}
+use Rattle.client_desk.specs.Kept.{IsKeptAt, IsNumberFor, kept_at, room_for, without}
+use Rattle.client_desk.specs.Places.{PlaceState, free_place, sat, unsat, with_client, with_tickets, with_watches}
+use Rattle.client_desk.specs.Told.{Told, bytes_told, cookie_told, dry, id_told, is_told, pending_told}
+use Rattle.client_desk.specs.Told.{polled_told, rows_told, tells, told, told_alone, value_told}
+
+-- how often a call begins anew that others are in the way of
+abbrev pub tries : ℕ
+tries = 1000000
+
+-- how a call may be answered: from a place as it was, what is told, and the place after it
+abbrev pub Rule : Type 1
+Rule = PlaceState → Told → PlaceState → Type 0
+
+-- ---- where nothing is done
+
+-- this is told, and the place is as it was
+abbrev pub Tells : Outcome → Rule
+Tells outcome before t after = (t ≡ told_alone outcome) × (after ≡ before)
+
+-- what is there, or what is told where it isn't
+abbrev pub At : {X : Type 0} → Option X → Fault → (X → Rule) → Rule
+At (Some x) none rule = rule x
+At None none rule = Tells (Faulty none)
+
+-- the client that sits there
+abbrev pub ByClient : (ClientState → Rule) → Rule
+ByClient rule before = At before.client fault.NoClient rule before
+
+-- a client looked, and did nothing else
+pub record HasOnlyLooked (before after : PlaceState) : Type 0 where
+  pub old : ClientState
+  pub new : ClientState
+  pub sits : before.client ≡ Some old
+  pub stays : Stays ⊤ old new
+  pub left : after ≡ with_client new before
+
+-- Memory was refused: nothing was changed, and the client knows no less.
+pub record Lacks (before : PlaceState) (t : Told) (after : PlaceState) : Type 0 where
+  pub told : t ≡ dry
+  pub left : (after ≡ before) ⊎ HasOnlyLooked before after
+
+-- ---- sitting down and leaving
+
+-- a client of this ID sits down on the seat
+pub record SitsDown (uuid : Bytes) (means : Meanings) (seat : Seated) (before : PlaceState) (t : Told)
+    (after : PlaceState) : Type 0 where
+  pub client : ClientState
+  pub group : client.group ≡ before.group
+  pub id : client.id ≡ hyphenated_text lower uuid
+  pub answer : IsAnswered means seat.mark client.seat.mark None (λ s. last_id s client.id ≡ client.last)
+  pub looked : HasLooked ⊤ seat client.seat
+  pub rests : Rests ⊤ client
+  pub told : t ≡ told_alone Done
+  pub left : after ≡ sat client before
+
+-- it is refused, and the seat is free
+pub record IsTurnedAway (seat : Seated) (before : PlaceState) (t : Told) (after : PlaceState) : Type 0 where
+  pub back : Seated
+  pub looked : HasLooked ⊤ seat back
+  pub refusal : Refusal
+  pub missed : IsMissedOrDry ⊤ refusal
+  pub alone : IsLeft tries seat.mark back.mark refusal
+  pub told : t ≡ told_alone (Refused refusal)
+  pub left : after ≡ unsat back before
+
+abbrev pub Sits : Meanings → Bytes → Rule
+Sits means uuid before =
+    At before.seat fault.InUse (λ seat b t a. SitsDown uuid means seat b t a ⊎ IsTurnedAway seat b t a)
+    before
+
+-- The client left, and this is its seat: nothing else was seen or done there, and it has no pin and no taken slot.
+pub record HasLeft (client : ClientState) (seat : Seated) : Type 0 where
+  pub looked : HasLooked ⊤ client.seat seat
+  pub mark : seat.mark ≡ client.seat.mark
+  pub rests : IsIdle seat.view
+
+-- the client leaves; its tickets and watches are given up
+pub record Leaves (client : ClientState) (before : PlaceState) (t : Told) (after : PlaceState) : Type 0 where
+  pub seat : Seated
+  pub gone : HasLeft client seat
+  pub told : t ≡ told_alone Done
+  pub left : after ≡ free_place before.group seat
+
+-- ---- calls that change nothing in the group
+
+-- The client reads, and the reply is right at a point of the group's record; it is told.
+pub record ReadsBy {X : Type 0} (tell : X → Told) (right : State → X) (means : Meanings) (client : ClientState)
+    (t : Told) (next : ClientState) : Type 0 where
+  pub reply : Result X Refusal
+  pub answer : IsLinearized means tries client.seat.mark next.seat.mark reply no_change (λ s. Ok (right s))
+  pub refused : IfErr reply (IsMissedOrDry ⊤)
+  pub stays : Stays ⊤ client next
+  pub told : t ≡ tells tell reply
+
+-- nothing else of the place changes
+abbrev pub Reads : {X : Type 0} → (X → Told) → (State → X) → Meanings → ClientState → Rule
+Reads tell right means client before t after =
+    (next : ClientState) × ReadsBy tell right means client t next × (after ≡ with_client next before)
+
+-- The client looks for its last id, which is told, and is its own then.
+pub record Refreshes (means : Meanings) (client : ClientState) (before : PlaceState) (t : Told)
+    (after : PlaceState) : Type 0
+  where
+    pub reply : Result ℕ Refusal
+    pub next : ClientState
+    pub answer : IsLinearized means tries client.seat.mark next.seat.mark reply no_change
+        (λ s. Ok (last_id s client.id))
+    pub id : IfOk reply (λ n. next.last ≡ n)
+    pub last : IfErr reply (λ _. next.last ≡ client.last)
+    pub refused : IfErr reply (IsStoreRefusal ⊤)
+    pub looks : Looks ⊤ client next
+    pub told : t ≡ tells id_told reply
+    pub left : after ≡ with_client next before
+
+-- A pull is begun: its request is told, and the number under which its ticket is kept.
+pub record Keeps (keep : Keep) (asked : Begun) (next : ClientState) (before : PlaceState) (t : Told)
+    (after : PlaceState) : Type 0 where
+  pub number : ℕ
+  pub kept : Ticket
+  pub tickets : List (Option Ticket)
+  pub cookie : kept.cookie ≡ asked.cookie
+  pub where_ : IsNumberFor keep number before.tickets
+  pub there : IsKeptAt number kept before.tickets tickets
+  pub told : t ≡ told (Number number) asked.body
+  pub left : after ≡ with_tickets next tickets before
+
+abbrev pub IsBegun : Keep → Result Begun Refusal → ClientState → Rule
+IsBegun keep (Ok asked) next before t after = Keeps keep asked next before t after
+IsBegun keep (Err e) next before t after = (t ≡ told_alone (Refused e)) × (after ≡ with_client next before)
+
+pub record Begins (keep : Keep) (means : Meanings) (client : ClientState) (before : PlaceState) (t : Told)
+    (after : PlaceState) : Type 0
+  where
+    pub reply : Result Begun Refusal
+    pub next : ClientState
+    pub answer : IsLinearized means tries client.seat.mark next.seat.mark reply no_change
+        (λ s. Ok (asked_at client.group.identity s))
+    pub refused : IfErr reply (IsMissedOrDry ⊤)
+    pub stays : Stays ⊤ client next
+    pub begun : IsBegun keep reply next before t after
+
+-- the ticket of a number is given up
+abbrev pub Forgets : ℕ → Ticket → Rule
+Forgets n kept before t after = (t ≡ told_alone Done)
+    × (after ≡ record before { tickets = without before.tickets n })
+
+-- a watch of a scan is kept, which has answered nothing yet; the number under which it is kept is told
+pub record Watches (keep : Keep) (scan : Scan) (client : ClientState) (before : PlaceState) (t : Told)
+    (after : PlaceState) : Type 0 where
+  pub number : ℕ
+  pub watches : List (Option Watched)
+  pub where_ : IsNumberFor keep number before.watches
+  pub there : IsKeptAt number (record { book = client.seat.mark.book; scan = scan; last = None }) before.watches watches
+  pub told : t ≡ told_alone (Number number)
+  pub left : after ≡ record before { watches = watches }
+
+-- the watch of a number is polled
+pub record Polls (means : Meanings) (client : ClientState) (n : ℕ) (watch : Watched) (before : PlaceState) (t : Told)
+    (after : PlaceState) : Type 0 where
+  pub reply : Result Polled Refusal
+  pub next : ClientState
+  pub answer : IsLinearized means tries client.seat.mark next.seat.mark reply no_change
+      (λ s. Ok (poll_at means watch s))
+  pub refused : IfErr reply (IsMissedOrDry ⊤)
+  pub stays : Stays ⊤ client next
+  pub told : t ≡ tells polled_told reply
+  pub left : after ≡ with_watches next (slice_set before.watches n (Some (watch_after watch reply))) before
+
+-- where a number is said under which something is to be kept, what is kept there is given up first
+abbrev pub made_room : Call → PlaceState → PlaceState
+made_room (call.Begin keep) p = record p { tickets = room_for keep p.tickets }
+made_room (call.Watch keep scan) p = record p { watches = room_for keep p.watches }
+made_room other p = p
+
+-- ---- any call that is no change of the group
+
+-- a query
+abbrev pub AnswersReading : Meanings → Call → Rule
+AnswersReading means (call.Get key) = ByClient (Reads value_told (λ s. get_at means s key.now) means)
+AnswersReading means (call.Has key) = ByClient (Reads is_told (λ s. has_at means s key.now) means)
+AnswersReading means (call.Scan scan) = ByClient (Reads rows_told (λ s. view_rows means s scan.now) means)
+AnswersReading means call.Empty = ByClient (Reads is_told (λ s. is_empty_at means s) means)
+AnswersReading means call.Pending = ByClient (Reads pending_told (λ s. s.pending) means)
+AnswersReading means call.Cookie = ByClient (Reads cookie_told (λ s. s.cookie) means)
+AnswersReading means call.Closed = ByClient (Reads is_told (λ s. s.closed) means)
+AnswersReading means call.Push = ByClient (λ c. Reads bytes_told (λ s. push_text c.group.identity s.pending) means c)
+AnswersReading means other = Tells (Faulty fault.NotAsked)
+
+-- and what a client does beside queries and changes
+abbrev pub AnswersLooking : Meanings → Call → Rule
+AnswersLooking means (call.Sit id) = Sits means id.now
+AnswersLooking means call.Leave = ByClient Leaves
+AnswersLooking means call.Refresh = ByClient (Refreshes means)
+AnswersLooking means (call.Begin keep) = ByClient (λ c b. Begins keep means c (made_room (call.Begin keep) b))
+AnswersLooking means (call.Forget n) = λ b. At (kept_at b.tickets n) fault.NoTicket (Forgets n) b
+AnswersLooking means (call.Watch keep scan) = ByClient (λ c b. Watches keep scan.now c
+    (made_room (call.Watch keep scan) b))
+AnswersLooking means (call.Poll n) = ByClient (λ c b. At (kept_at b.watches n) fault.NoWatch
+    (λ watch. Polls means c n watch) b)
+AnswersLooking means other = AnswersReading means other

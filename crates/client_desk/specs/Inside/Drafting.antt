@@ -1,0 +1,7 @@
+-- What a run that is asked for tells.
+use Rattle.std.specs.Prelude.{◌≡◌, ◌⊎◌}
+use Rattle.client_desk.specs.Told.{Told, dry}
+
+-- this, or that memory was refused
+abbrev pub MayTell : Told → Told → Type 0
+MayTell this t = (t ≡ dry) ⊎ (t ≡ this)

@@ -1,0 +1,54 @@
+//! What a host got wrong.
+ghost use Rattle.std.specs.Prelude.{◌≡◌};
+ghost use Rattle.client_desk.specs.Numbers.{fault_number};
+
+/// What a host got wrong. Nothing was done.
+#[derive(Clone, Copy, Debug, PartialEq, Eq)]
+pub enum Fault {
+    // by tools/refusals: variants of faults
+    /// The bytes are not UTF-8.
+    NotUtf8,
+    /// The text is no UUID (RFC 9562).
+    BadUuid,
+    /// A number is none of those that it may be.
+    OutOfRange,
+    /// The place has no ticket of this number.
+    NoTicket,
+    /// The place has no watch of this number.
+    NoWatch,
+    /// The rules are faulty.
+    BadRules,
+    /// A client sits at the place.
+    InUse,
+    /// A change of the place asks for a run of a mutator.
+    Asks,
+    /// No client sits at the place.
+    NoClient,
+    /// The place is closed.
+    NoPlace,
+    /// No change of the place asks for a run.
+    NotAsked,
+    // tools/refusals: end
+}
+
+impl Fault {
+    pub(crate) fn number(self) -> i32
+        ensures { result ≡ fault_number self }
+    {
+        match self {
+            // by tools/refusals: numbers of faults
+            Fault::NotUtf8 => -101,
+            Fault::BadUuid => -102,
+            Fault::OutOfRange => -103,
+            Fault::NoTicket => -104,
+            Fault::NoWatch => -105,
+            Fault::BadRules => -106,
+            Fault::InUse => -107,
+            Fault::Asks => -108,
+            Fault::NoClient => -109,
+            Fault::NoPlace => -110,
+            Fault::NotAsked => -111,
+            // tools/refusals: end
+        }
+    }
+}

@@ -1,0 +1,385 @@
+//! A place at a group, and its calls.
+ghost use Rattle.std.specs.Prelude.{◌≡◌, ◌⊎◌, []};
+ghost use Rattle.std.specs.Arc.{arc_value};
+ghost use Rattle.group_history.specs.Queries.{get_at, has_at, is_empty_at, view_rows};
+ghost use Rattle.commit_graph.specs.Seats.{IsSeatOf};
+ghost use Rattle.push_body.specs.Bodies.{push_text};
+ghost use Rattle.client_desk.specs.declared.calls.Call.TheVariants as kind;
+ghost use Rattle.client_desk.specs.declared.faults.Fault.TheVariants as fault;
+ghost use Rattle.client_desk.specs.Answers.{AnswersLooking, AnswersReading, At, Begins, ByClient, Forgets};
+ghost use Rattle.client_desk.specs.Answers.{Lacks, Leaves, Polls, Reads, Refreshes, Sits, Watches, made_room};
+ghost use Rattle.client_desk.specs.Calls.{MayLack};
+ghost use Rattle.client_desk.specs.Closing.{Closes};
+ghost use Rattle.client_desk.specs.Inside.Sitting.{CanSit, IsAt, IsLeft, IsTaken, IsTakenFrom, with_sitting};
+ghost use Rattle.client_desk.specs.Kept.{kept_at};
+ghost use Rattle.client_desk.specs.Places.{free_place};
+ghost use Rattle.client_desk.specs.Told.{bytes_told, cookie_told, is_told, pending_told, rows_told, told, told_alone};
+ghost use Rattle.client_desk.specs.Told.{value_told};
+
+use crate::calls::{Call, Keep};
+use crate::faults::Fault;
+use crate::kept::{give_up, make_room};
+use crate::mutators::Hosted;
+use crate::outcomes::{Outcome, id_outcome};
+use crate::reading::{
+    tell_closed, tell_cookie, tell_empty, tell_has, tell_pending, tell_push, tell_rows, tell_value,
+};
+use crate::sitting::Sitting;
+use crate::tickets::keep_reply;
+use crate::watches::{keep_watch, poll_watch};
+use group_history::{Refusal, Scan};
+use rebase::{Arena, Client, Group, Seat, Ticket, Uuid, Watch};
+use std::alloc::Global;
+use std::marker::Model;
+use std::mem::replace;
+use std::sync::Arc;
+
+/// How often a call begins anew that others are in the way of.
+pub(crate) const TRIES: u32 = 1_000_000;
+
+/// A place at a group: who sits there, with what it keeps for its host. It can't be dropped: it is closed.
+pub struct Place<M: Hosted> {
+    pub(crate) alloc: Global,
+    group: Arc<Group<M, Arena<M>>, Global>,
+    pub(crate) sitting: Sitting<M>,
+    pub(crate) tickets: Vec<Option<Ticket>>,
+    watches: Vec<Option<Watch<M>>>,
+}
+
+impl<M: Hosted> Model for Place<M> {
+    ghost use Rattle.std.specs.Arc.{arc_value};
+    ghost use Rattle.std.specs.Coded.{codes};
+    ghost use Rattle.std.specs.Prelude.{◌≡◌, IfSome};
+    ghost use Rattle.group_history.specs.contracts.changes.Change as the_change;
+    ghost use Rattle.group_history.specs.contracts.mutations.Mutation as the_mutation;
+    ghost use Rattle.head_word.specs.contracts.entry.Entry as entry;
+    ghost use Rattle.group_steps.specs.Rooting.{entries_coded};
+    ghost use Rattle.commit_graph.specs.Seats.{IsSeatOf};
+    ghost use Rattle.client_desk.specs.Inside.Keeping.{AreOf};
+    ghost use Rattle.client_desk.specs.Places.{PlaceState};
+    ghost use Rattle.client_desk.specs.Runs.{IsAsking};
+    ghost use Rattle.client_desk.specs.Sitting.{asking_of, client_of, seat_of};
+
+    ghost Value = { PlaceState };
+
+    ghost coded = { Prim.hlevel (
+      codes,
+      entry.the_row.coded,
+      the_change.the_row.coded,
+      the_mutation.the_row.coded,
+      entries_coded,
+    ) };
+
+    ghost view = { λ p. record {
+      group = arc_value p.group;
+      seat = seat_of p.sitting;
+      client = client_of p.sitting;
+      asking = asking_of p.sitting;
+      tickets = p.tickets.items;
+      watches = p.watches.items;
+    } };
+
+    ghost invariant = { λ p. IfSome (seat_of p.sitting) (IsSeatOf (arc_value p.group).group)
+        × IfSome (client_of p.sitting) (λ c. (c.group ≡ arc_value p.group)
+        × IsSeatOf (arc_value p.group).group c.seat)
+        × IfSome (asking_of p.sitting) (IsAsking M.had M.means (arc_value p.group))
+        × AreOf (arc_value p.group).group.book p.watches.items };
+}
+
+impl<M: Hosted> Place<M> {
+    /// A place with this seat, at which nobody sits.
+    pub fn new(
+        alloc: Global,
+        group: Arc<Group<M, Arena<M>>, Global>,
+        seat: Seat<M, Arena<M>>,
+    ) -> Place<M>
+        requires { IsSeatOf (arc_value group).group seat }
+        ensures { result ≡ free_place (arc_value group) seat }
+    {
+        Place {
+            alloc,
+            group,
+            sitting: Sitting::Nobody(seat),
+            tickets: Vec::new(alloc),
+            watches: Vec::new(alloc),
+        }
+    }
+
+    /// Closes the place: who sits there leaves. A change that asks for a run is given up. Answers the seat.
+    pub fn close(self) -> Option<Seat<M, Arena<M>>>
+        ensures { Closes M.means self result }
+    {
+        let Place {
+            alloc: _,
+            group: _,
+            sitting,
+            tickets: _,
+            watches: _,
+        } = self;
+        sitting.close()
+    }
+}
+
+impl<M: Hosted + Sync> Place<M> {
+    // Who sits there is taken away. It, or another one, is put there before the call ends.
+    pub(crate) fn take(&mut self) -> Sitting<M>
+        ensures { IsTaken M.had M.means result self.old self.new }
+    {
+        replace(&mut self.sitting, Sitting::Moving)
+    }
+
+    pub(crate) fn put(&mut self, sitting: Sitting<M>)
+        requires taken { IsTakenFrom self.old }
+        requires fits { CanSit M.had M.means self.old.group sitting }
+        ensures { self.new ≡ with_sitting sitting self.old }
+    {
+        let before = replace(&mut self.sitting, sitting);
+        let Sitting::Moving = before else {
+            unreachable!()
+        };
+    }
+
+    fn sit(&mut self, id: &Uuid) -> Outcome
+        ensures { Sits M.means id.now self.old (told_alone result) self.new }
+    {
+        let seat = match self.take() {
+            Sitting::Nobody(seat) => seat,
+            other => {
+                self.put(other);
+                return Outcome::Faulty(Fault::InUse);
+            }
+        };
+        match self.group.client(seat, *id, TRIES) {
+            Ok(client) => {
+                self.put(Sitting::Client(client));
+                return Outcome::Done;
+            }
+            Err((seat, refusal)) => {
+                self.put(Sitting::Nobody(seat));
+                return Outcome::Refused(refusal);
+            }
+        }
+    }
+
+    // The client's seat is free, and what it kept is given up.
+    pub(crate) fn free(&mut self, client: Client<M, Arena<M>>)
+        requires taken { IsTakenFrom self.old }
+        requires at { IsAt self.old.group client }
+        ensures { IsLeft client self.old self.new }
+    {
+        self.put(Sitting::Nobody(client.close()));
+        self.tickets.clear();
+        self.watches.clear();
+    }
+
+    fn leave(&mut self) -> Outcome
+        ensures { ByClient Leaves self.old (told_alone result) self.new }
+    {
+        match self.take() {
+            Sitting::Client(client) => {
+                self.free(client);
+                return Outcome::Done;
+            }
+            other => {
+                self.put(other);
+                return Outcome::Faulty(Fault::NoClient);
+            }
+        }
+    }
+
+    fn get(&mut self, key: &str, bytes: &mut Vec<u8>) -> Outcome
+        requires { bytes.old.items ≡ [] }
+        ensures { Lacks self.old (told result bytes.new.items) self.new
+            ⊎ ByClient (Reads value_told (λ s. get_at M.means s key.now) M.means) self.old
+            (told result bytes.new.items) self.new }
+    {
+        let Sitting::Client(client) = &mut self.sitting else {
+            return Outcome::Faulty(Fault::NoClient);
+        };
+        tell_value(client, key, bytes)
+    }
+
+    fn has(&mut self, key: &str) -> Outcome
+        ensures { ByClient (Reads is_told (λ s. has_at M.means s key.now) M.means) self.old (told_alone result)
+            self.new }
+    {
+        let Sitting::Client(client) = &mut self.sitting else {
+            return Outcome::Faulty(Fault::NoClient);
+        };
+        tell_has(client, key)
+    }
+
+    fn empty(&mut self) -> Outcome
+        ensures { ByClient (Reads is_told (λ s. is_empty_at M.means s) M.means) self.old (told_alone result) self.new }
+    {
+        let Sitting::Client(client) = &mut self.sitting else {
+            return Outcome::Faulty(Fault::NoClient);
+        };
+        tell_empty(client)
+    }
+
+    fn scan(&mut self, scan: &Scan, bytes: &mut Vec<u8>) -> Outcome
+        requires { bytes.old.items ≡ [] }
+        ensures { Lacks self.old (told result bytes.new.items) self.new
+            ⊎ ByClient (Reads rows_told (λ s. view_rows M.means s scan.now) M.means) self.old
+            (told result bytes.new.items) self.new }
+    {
+        let Sitting::Client(client) = &mut self.sitting else {
+            return Outcome::Faulty(Fault::NoClient);
+        };
+        tell_rows(self.alloc, client, scan, bytes)
+    }
+
+    fn pending(&mut self, bytes: &mut Vec<u8>) -> Outcome
+        requires { bytes.old.items ≡ [] }
+        ensures { Lacks self.old (told result bytes.new.items) self.new
+            ⊎ ByClient (Reads pending_told (λ s. s.pending) M.means) self.old (told result bytes.new.items) self.new }
+    {
+        let Sitting::Client(client) = &mut self.sitting else {
+            return Outcome::Faulty(Fault::NoClient);
+        };
+        tell_pending(client, bytes)
+    }
+
+    fn cookie(&mut self, bytes: &mut Vec<u8>) -> Outcome
+        requires { bytes.old.items ≡ [] }
+        ensures { Lacks self.old (told result bytes.new.items) self.new
+            ⊎ ByClient (Reads cookie_told (λ s. s.cookie) M.means) self.old (told result bytes.new.items) self.new }
+    {
+        let Sitting::Client(client) = &mut self.sitting else {
+            return Outcome::Faulty(Fault::NoClient);
+        };
+        tell_cookie(client, bytes)
+    }
+
+    fn closed(&mut self) -> Outcome
+        ensures { ByClient (Reads is_told (λ s. s.closed) M.means) self.old (told_alone result) self.new }
+    {
+        let Sitting::Client(client) = &mut self.sitting else {
+            return Outcome::Faulty(Fault::NoClient);
+        };
+        tell_closed(client)
+    }
+
+    fn push(&mut self, bytes: &mut Vec<u8>) -> Outcome
+        requires { bytes.old.items ≡ [] }
+        ensures { ByClient (λ c. Reads bytes_told (λ s. push_text c.group.identity s.pending) M.means c) self.old
+            (told result bytes.new.items) self.new }
+    {
+        let Sitting::Client(client) = &mut self.sitting else {
+            return Outcome::Faulty(Fault::NoClient);
+        };
+        tell_push(client, bytes)
+    }
+
+    fn refresh(&mut self) -> Outcome
+        ensures { ByClient (Refreshes M.means) self.old (told_alone result) self.new }
+    {
+        let Sitting::Client(client) = &mut self.sitting else {
+            return Outcome::Faulty(Fault::NoClient);
+        };
+        id_outcome(client.refresh(TRIES))
+    }
+
+    // The ticket of the pull is kept, and its request is told.
+    fn begin(&mut self, keep: Keep, bytes: &mut Vec<u8>) -> Outcome
+        requires { bytes.old.items ≡ [] }
+        ensures { Lacks (made_room (kind.Begin keep) self.old) (told result bytes.new.items) self.new
+            ⊎ ByClient (λ c b. Begins keep M.means c (made_room (kind.Begin keep) b)) self.old
+            (told result bytes.new.items) self.new }
+    {
+        let Sitting::Client(client) = &mut self.sitting else {
+            return Outcome::Faulty(Fault::NoClient);
+        };
+        make_room(&mut self.tickets, keep);
+        let reply = client.begin_pull(TRIES);
+        keep_reply(self.alloc, &mut self.tickets, keep, reply, bytes)
+    }
+
+    fn forget(&mut self, number: usize) -> Outcome
+        ensures { At (kept_at self.old.tickets number) fault.NoTicket (Forgets number) self.old
+            (told_alone result) self.new }
+    {
+        if !give_up(&mut self.tickets, number) {
+            return Outcome::Faulty(Fault::NoTicket);
+        }
+        Outcome::Done
+    }
+
+    fn watch(&mut self, keep: Keep, scan: &Scan) -> Outcome
+        ensures { Lacks (made_room (kind.Watch keep scan.entry) self.old) (told_alone result) self.new
+            ⊎ ByClient (λ c b. Watches keep scan.now c (made_room (kind.Watch keep scan.entry) b)) self.old
+            (told_alone result) self.new }
+    {
+        let Sitting::Client(client) = &self.sitting else {
+            return Outcome::Faulty(Fault::NoClient);
+        };
+        make_room(&mut self.watches, keep);
+        match scan.clone() {
+            Ok(scan) => {
+                let watch = client.watch(scan);
+                keep_watch(&mut self.watches, keep, watch)
+            }
+            Err(_) => Outcome::Refused(Refusal::NoMemory),
+        }
+    }
+
+    fn poll(&mut self, number: usize, bytes: &mut Vec<u8>) -> Outcome
+        requires { bytes.old.items ≡ [] }
+        ensures { Lacks self.old (told result bytes.new.items) self.new
+            ⊎ ByClient (λ c b. At (kept_at b.watches number) fault.NoWatch (λ watch. Polls M.means c number watch) b)
+            self.old (told result bytes.new.items) self.new }
+    {
+        let Sitting::Client(client) = &mut self.sitting else {
+            return Outcome::Faulty(Fault::NoClient);
+        };
+        if number >= self.watches.len() {
+            return Outcome::Faulty(Fault::NoWatch);
+        }
+        match &mut self.watches[number] {
+            Some(watch) => {
+                return poll_watch(client, watch, bytes);
+            }
+            None => {
+                return Outcome::Faulty(Fault::NoWatch);
+            }
+        }
+    }
+
+    // Makes a query, where no change asks for a run.
+    fn call_reading(&mut self, call: Call<'_>, bytes: &mut Vec<u8>) -> Outcome
+        requires { bytes.old.items ≡ [] }
+        ensures { (MayLack call.entry × Lacks (made_room call.entry self.old) (told result bytes.new.items) self.new)
+            ⊎ AnswersReading M.means call.entry self.old (told result bytes.new.items) self.new }
+    {
+        match call {
+            Call::Get(key) => self.get(key, bytes),
+            Call::Has(key) => self.has(key),
+            Call::Scan(scan) => self.scan(scan, bytes),
+            Call::Empty => self.empty(),
+            Call::Pending => self.pending(bytes),
+            Call::Cookie => self.cookie(bytes),
+            Call::Closed => self.closed(),
+            Call::Push => self.push(bytes),
+            _ => Outcome::Faulty(Fault::NotAsked),
+        }
+    }
+
+    // Makes a call that is no change, where none asks for a run.
+    pub(crate) fn call_calm(&mut self, call: Call<'_>, bytes: &mut Vec<u8>) -> Outcome
+        requires { bytes.old.items ≡ [] }
+        ensures { (MayLack call.entry × Lacks (made_room call.entry self.old) (told result bytes.new.items) self.new)
+            ⊎ AnswersLooking M.means call.entry self.old (told result bytes.new.items) self.new }
+    {
+        match call {
+            Call::Sit(id) => self.sit(id),
+            Call::Leave => self.leave(),
+            Call::Refresh => self.refresh(),
+            Call::Begin(keep) => self.begin(keep, bytes),
+            Call::Forget(number) => self.forget(number),
+            Call::Watch(keep, scan) => self.watch(keep, scan),
+            Call::Poll(number) => self.poll(number, bytes),
+            other => self.call_reading(other, bytes),
+        }
+    }
+}

@@ -1,7 +1,0 @@
-use Rattle.host_places.proofs.Moving.{left_place}
-use Rattle.host_places.proofs.place.Place.leave.Goals as goal
-
-pub returns-in-Client : goal.returns-in-Client
-returns-in-Client g c =
-    let taken = c.in-Client.ensures in
-    left_place c.args.self.now c.take.new.self c.free.new.self c.in-Client.client taken.client taken.left c.free.ensures

@@ -1,7 +1,0 @@
--- What a run that is asked for tells.
-use Rattle.std.specs.Prelude.{◌≡◌, ◌⊎◌}
-use Rattle.host_places.specs.Told.{Told, dry}
-
--- this, or that memory was refused
-abbrev pub MayTell : Told → Told → Type 0
-MayTell this t = (t ≡ dry) ⊎ (t ≡ this)

@@ -1,0 +1,46 @@
+//! The calls of a host, by numbers.
+ghost use Rattle.std.specs.Prelude.{ℕ, ◌≡◌, Ok};
+ghost use Rattle.group_history.specs.Map.{Bytes};
+ghost use Rattle.host_places.specs.Asking.{scan_said, text_said};
+ghost use Rattle.host_places.specs.Numbers.{HasKey, HasScan, IsCall};
+
+use client_desk::{Call, Keep};
+use group_history::Scan;
+
+/// A call by its number, with two numbers and two byte strings of which each call uses those that it needs.
+#[derive(Clone, Copy)]
+pub struct Numbered<'a> {
+    pub what: u32,
+    pub m: u32,
+    pub n: u64,
+    pub a: &'a [u8],
+    pub b: &'a [u8],
+}
+
+/// The call of a number that has a key.
+pub(crate) fn key_call<'a>(what: u32, key: &'a str) -> Call<'a>
+    requires { HasKey what }
+    ensures { (m n : ℕ) (a b : Bytes) → text_said a ≡ Ok key.now → IsCall result what m n a b }
+{
+    match what {
+        2 => Call::Get(key),
+        3 => Call::Has(key),
+        18 => Call::DraftGet(key),
+        19 => Call::DraftHas(key),
+        22 => Call::DraftDel(key),
+        _ => unreachable!(),
+    }
+}
+
+/// The call of a number that has a scan.
+pub(crate) fn scan_call<'a>(what: u32, scan: &'a Scan) -> Call<'a>
+    requires { HasScan what }
+    ensures { (m n : ℕ) (a b : Bytes) → scan_said a m b n ≡ Ok scan.now → IsCall result what m n a b }
+{
+    match what {
+        4 => Call::Scan(scan),
+        14 => Call::Watch(Keep::AtNext, scan),
+        20 => Call::DraftScan(scan),
+        _ => unreachable!(),
+    }
+}
