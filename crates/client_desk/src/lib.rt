@@ -1,4 +1,4 @@
-//! A client with what it keeps: the calls that scripts, the pipe and hosts make.
+//! A client with what it keeps: the calls that hosts make.
 //!
 //! A place is at a group. A client sits down there, makes its calls and leaves; another one may sit there then. What
 //! it keeps from call to call, tickets and watches, has numbers. `place` has what each call does that is no change,
