@@ -1,9 +1,13 @@
 """A group of one thread: the pulled map, the cookie, the confirmed ids, what is pending, and whether it is closed."""
 
+from collections.abc import Callable
 from typing import Any, NamedTuple
 
 from wire import Refused, compact, is_int, order_of, quoted, read_response
 
+Rows = dict[str, Any]
+# What mutators mean: a name, arguments, a reason and a map, to the map after it.
+Run = Callable[[str, Any, str, Rows], Rows]
 
 # Why a mutator is run, as `tag` writes it: its client makes the mutation, or a pull was applied under it.
 INITIAL, REBASE = "i", "r"
@@ -27,34 +31,37 @@ class Declined(Exception):
 
 
 class Group:
-    def __init__(self, identity):
+    def __init__(self, identity: list[str], run: Run) -> None:
         self.identity = identity
-        self.pulled = {}
-        self.cookie = None
-        self.confirmed = {}
-        self.pending = []
+        self.run = run
+        self.pulled: Rows = {}
+        self.cookie: Any = None
+        self.confirmed: dict[str, int] = {}
+        self.pending: list[Mutation] = []
         self.closed = False
+        # The view, kept, since a group of many lines is asked for it at each.
+        self.view: Rows = {}
 
-    def view(self):
+    def replayed(self) -> Rows:
         rows = self.pulled
         for mutation in self.pending:
             try:
-                rows = mutated(mutation.name, mutation.args, mutation.reason, rows)
+                rows = self.run(mutation.name, mutation.args, mutation.reason, rows)
             except (NoMutator, Declined):
                 pass
         return rows
 
-    def last(self, client):
+    def last(self, client: str) -> int:
         own = [mutation.id for mutation in self.pending if mutation.client == client]
         return max([self.confirmed.get(client, 0), *own])
 
-    def mutate(self, client, last, name, args, time):
+    def mutate(self, client: str, last: int, name: str, args: Any, time: int) -> int:
         if self.closed:
             raise Refused("Closed")
         if self.last(client) != last:
             raise Refused("Stale")
         try:
-            mutated(name, args, INITIAL, self.view())
+            self.view = self.run(name, args, INITIAL, self.view)
         except NoMutator as error:
             raise Refused("NoMutator") from error
         except Declined as code:
@@ -62,7 +69,7 @@ class Group:
         self.pending.append(Mutation(client, last + 1, name, args, time, INITIAL))
         return last + 1
 
-    def end_pull(self, ticket, body):
+    def end_pull(self, ticket: str, body: bytes) -> str:
         error, response = read_response(body)
         if self.closed:
             raise Refused("Closed")
@@ -85,10 +92,11 @@ class Group:
         self.confirmed |= changes
         unconfirmed = (it for it in self.pending if it.id > self.confirmed.get(it.client, 0))
         self.pending = [it._replace(reason=REBASE) for it in unconfirmed]
+        self.view = self.replayed()
         return "applied"
 
-    def scan(self, prefix, start, limit):
-        rows = self.view()
+    def scan(self, prefix: str, start: str, limit: int | None) -> list[list[Any]]:
+        rows = self.view
         keys = sorted((key for key in rows if key.startswith(prefix)), key=str.encode)
         if start.startswith("="):
             keys = [key for key in keys if key.encode() >= start[1:].encode()]
@@ -96,7 +104,7 @@ class Group:
             keys = [key for key in keys if key.encode() > start[1:].encode()]
         return [[key, rows[key]] for key in keys[:limit]]
 
-    def push_body(self):
+    def push_body(self) -> str:
         group, profile, schema = map(quoted, self.identity)
         mutations = ",".join(
             f'{{"args":{compact(it.args)},"clientID":{quoted(it.client)},"id":{it.id}'
@@ -108,7 +116,7 @@ class Group:
             f',"profileID":{profile},"pushVersion":1,"schemaVersion":{schema}}}'
         )
 
-    def pull_body(self):
+    def pull_body(self) -> str:
         group, profile, schema = map(quoted, self.identity)
         return (
             f'{{"clientGroupID":{group},"cookie":{compact(self.cookie)}'
@@ -116,7 +124,7 @@ class Group:
         )
 
 
-def patched(rows, patch):
+def patched(rows: Rows, patch: list[dict[str, Any]]) -> Rows:
     rows = dict(rows)
     for op in patch:
         if op["op"] == "put":
@@ -132,7 +140,7 @@ WRONG_ARGUMENTS, NOT_THERE, OTHER_KIND, OUT_OF_RANGE = 1, 2, 3, 4
 LENGTHS = {"set": 2, "del": 1, "incr": 2, "append": 2, "tag": 1}
 
 
-def mutated(name, args, why, rows):
+def mutated(name: str, args: Any, why: str, rows: Rows) -> Rows:
     """The map after a mutator ran on it for a reason."""
     if name not in LENGTHS:
         raise NoMutator
@@ -150,11 +158,11 @@ def mutated(name, args, why, rows):
     return rows
 
 
-def is_i64(value):
+def is_i64(value: Any) -> bool:
     return is_int(value) and -(2**63) <= value < 2**63
 
 
-def raised(rows, key, by):
+def raised(rows: Rows, key: str, by: Any) -> Any:
     if not is_i64(by):
         raise Declined(WRONG_ARGUMENTS)
     if key not in rows:
@@ -166,7 +174,7 @@ def raised(rows, key, by):
     return rows[key] + by
 
 
-def lengthened(rows, key, tail):
+def lengthened(rows: Rows, key: str, tail: Any) -> Any:
     if not isinstance(tail, str):
         raise Declined(WRONG_ARGUMENTS)
     if not isinstance(rows.get(key, ""), str):

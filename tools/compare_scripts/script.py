@@ -3,7 +3,7 @@
 import re
 from typing import Any, NamedTuple
 
-from model import Group
+from model import Group, mutated
 from wire import ARGS_DEPTH, NotJson, Refused, compact, is_whole, read_json
 
 HEADER_WORDS = ("group", "profile", "schema", "slots", "client")
@@ -25,6 +25,9 @@ class Fault(Exception):
     """What is told of a faulty line."""
 
 
+Scan = tuple[str, str, int | None]
+
+
 class Line(NamedTuple):
     number: int
     client: int
@@ -33,16 +36,16 @@ class Line(NamedTuple):
 
 
 class Script:
-    def __init__(self):
-        self.said = {"group": "00000000-0000-0000-0000-000000000000", "profile": "p1", "schema": "s1"}
-        self.names = []
-        self.ids = []
-        self.phases = []
-        self.has_said = set()
-        self.made_tickets = set()
-        self.made_watches = set()
+    def __init__(self) -> None:
+        self.said: dict[str, Any] = {"group": "00000000-0000-0000-0000-000000000000", "profile": "p1", "schema": "s1"}
+        self.names: list[str] = []
+        self.ids: list[str] = []
+        self.phases: list[list[Line]] = []
+        self.has_said: set[str] = set()
+        self.made_tickets: set[tuple[int, str]] = set()
+        self.made_watches: set[tuple[int, str]] = set()
 
-    def read(self, data):
+    def read(self, data: bytes) -> "Script":
         try:
             text = data.decode("utf-8")
         except UnicodeDecodeError as error:
@@ -55,22 +58,28 @@ class Script:
                     raise Fault(f"line {number}: {fault}") from fault
         return self
 
-    def read_line(self, number, line):
+    def identity(self) -> list[str]:
+        return [self.said[word] for word in ("group", "profile", "schema")]
+
+    def read_line(self, number: int, line: str) -> Line | None:
+        """Reads a line, and gives the call that it asks for; None where it is another line."""
         words = line.split(" ")
+        if self.phases and words[0] != "phase":
+            return self.read_call(number, line, words)
         if words[0] == "phase":
             expect(len(words) == 1, "bad words")
             self.phases.append([])
-        elif self.phases:
-            self.read_call(number, line, words)
         else:
             self.read_header(line, words)
+        return None
 
-    def read_header(self, line, words):
+    def read_header(self, line: str, words: list[str]) -> None:
         word = words[0]
         expect(word in HEADER_WORDS, "unknown line")
         if word == "client":
             self.add_client(words)
             return
+        value: str | int
         if word in ("profile", "schema"):
             expect(len(words) > 1, "bad words")
             value = line[len(word) + 1 :]
@@ -81,7 +90,7 @@ class Script:
         self.has_said.add(word)
         self.said[word] = value
 
-    def add_client(self, words):
+    def add_client(self, words: list[str]) -> None:
         expect(len(words) == 3 and NAME.fullmatch(words[1]) and words[2], "bad words")
         id = uuid_of(words[2])
         expect(words[1] not in self.names, "said twice")
@@ -89,7 +98,7 @@ class Script:
         self.names.append(words[1])
         self.ids.append(id)
 
-    def read_call(self, number, line, words):
+    def read_call(self, number: int, line: str, words: list[str]) -> Line:
         expect(words[0] in self.names, "unknown client")
         expect(len(words) > 1 and words[1] in COMMANDS, "unknown command")
         client, command = self.names.index(words[0]), words[1]
@@ -102,61 +111,63 @@ class Script:
             found = rest[1:]
         else:
             found = getattr(self, f"read_{command}")(client, words[2:], rest[1:])
-        self.phases[-1].append(Line(number, client, command, found))
+        call = Line(number, client, command, found)
+        self.phases[-1].append(call)
+        return call
 
-    def read_scan(self, _client, words, _rest):
+    def read_scan(self, _client: int, words: list[str], _rest: str) -> Scan:
         expect(len(words) == 3 and all(words) and START.fullmatch(words[1]), "bad words")
         limit = None if words[2] == "-" else number_of(words[2], 0, 2**64)
         return "" if words[0] == "-" else words[0], words[1], limit
 
-    def read_begin(self, client, words, _rest):
+    def read_begin(self, client: int, words: list[str], _rest: str) -> str:
         expect(len(words) == 1 and TICKET.fullmatch(words[0]), "bad words")
         self.made_tickets.add((client, words[0]))
         return words[0]
 
-    def read_end(self, client, words, rest):
+    def read_end(self, client: int, words: list[str], rest: str) -> tuple[str, bytes]:
         expect(len(words) > 1 and TICKET.fullmatch(words[0]), "bad words")
         expect((client, words[0]) in self.made_tickets, "unknown name")
         return words[0], rest[len(words[0]) + 1 :].encode()
 
-    def read_watch(self, client, words, _rest):
+    def read_watch(self, client: int, words: list[str], _rest: str) -> tuple[str, Scan]:
         expect(words and TICKET.fullmatch(words[0]), "bad words")
-        scan = self.read_scan(client, words[1:], None)
+        scan = self.read_scan(client, words[1:], "")
         self.made_watches.add((client, words[0]))
         return words[0], scan
 
-    def read_poll(self, client, words, _rest):
+    def read_poll(self, client: int, words: list[str], _rest: str) -> str:
         expect(len(words) == 1 and TICKET.fullmatch(words[0]), "bad words")
         expect((client, words[0]) in self.made_watches, "unknown name")
         return words[0]
 
-    def read_learn(self, _client, words, _rest):
+    def read_learn(self, _client: int, words: list[str], _rest: str) -> None:
         expect(len(words) == 1 and NAME.fullmatch(words[0]), "bad words")
         expect(words[0] in self.names, "unknown name")
 
-    def read_mutate(self, _client, words, rest):
+    def read_mutate(self, _client: int, words: list[str], rest: str) -> tuple[int, str, Any]:
         expect(len(words) > 2 and words[0] and words[1], "bad words")
         time = number_of(words[0], 0, 2**53)
         return time, words[1], args_of(rest[len(words[0]) + len(words[1]) + 2 :])
 
 
-def expect(holds, fault):
+def expect(holds: object, fault: str) -> None:
     if not holds:
         raise Fault(fault)
 
 
-def uuid_of(word):
+def uuid_of(word: str) -> str:
     expect(UUID.fullmatch(word), "bad UUID")
     digits = word[-38:].strip("{}").replace("urn:uuid:", "").replace("-", "").lower()[-32:]
     return "-".join((digits[:8], digits[8:12], digits[12:16], digits[16:20], digits[20:]))
 
 
-def number_of(word, first, end):
+def number_of(word: str, first: int, end: int) -> int:
     expect(DIGITS.fullmatch(word) and first <= int(word) < end, "bad number")
     return int(word)
 
 
-def args_of(text):
+def args_of(text: str) -> Any:
     try:
         args = read_json(text.encode(), ARGS_DEPTH)
     except NotJson as error:
@@ -166,76 +177,82 @@ def args_of(text):
 
 
 class Client:
-    def __init__(self, id):
+    def __init__(self, id: str) -> None:
         self.id = id
         self.last = 0
-        self.tickets = {}
-        self.watches = {}
+        self.tickets: dict[str, str] = {}
+        self.watches: dict[str, tuple[Scan, str | None]] = {}
 
-    def reply(self, group, command, words):
+    def reply(self, group: Group, command: str, words: Any) -> str:
         try:
-            return getattr(self, command)(group, words)
+            return str(getattr(self, command)(group, words))
         except Refused as refusal:
             return f"refused {refusal}"
 
-    def get(self, group, key):
-        rows = group.view()
+    def get(self, group: Group, key: str) -> str:
+        rows = group.view
         return f"value {compact(rows[key])}" if key in rows else "none"
 
-    def has(self, group, key):
-        return "yes" if key in group.view() else "no"
+    def has(self, group: Group, key: str) -> str:
+        return "yes" if key in group.view else "no"
 
-    def empty(self, group, _words):
-        return "no" if group.view() else "yes"
+    def empty(self, group: Group, _words: None) -> str:
+        return "no" if group.view else "yes"
 
-    def closed(self, group, _words):
+    def closed(self, group: Group, _words: None) -> str:
         return "yes" if group.closed else "no"
 
-    def scan(self, group, words):
+    def scan(self, group: Group, words: Scan) -> str:
         return f"rows {compact(group.scan(*words))}"
 
-    def pending(self, group, _words):
+    def pending(self, group: Group, _words: None) -> str:
         return f"pending {compact([[it.client, it.id, it.name] for it in group.pending])}"
 
-    def cookie(self, group, _words):
+    def cookie(self, group: Group, _words: None) -> str:
         return f"cookie {compact(group.cookie)}"
 
-    def push(self, group, _words):
+    def push(self, group: Group, _words: None) -> str:
         return f"push {group.push_body()}"
 
-    def begin(self, group, ticket):
+    def begin(self, group: Group, ticket: str) -> str:
         self.tickets[ticket] = compact(group.cookie)
         return f"pull {group.pull_body()}"
 
-    def end(self, group, words):
+    def end(self, group: Group, words: tuple[str, bytes]) -> str:
         ticket, body = words
         return group.end_pull(self.tickets[ticket], body) if ticket in self.tickets else "no ticket"
 
-    def mutate(self, group, words):
+    def mutate(self, group: Group, words: tuple[int, str, Any]) -> str:
         time, name, args = words
         self.last = group.mutate(self.id, self.last, name, args, time)
         return f"id {self.last}"
 
-    def refresh(self, group, _words):
+    def refresh(self, group: Group, _words: None) -> str:
         self.last = group.last(self.id)
         return f"last {self.last}"
 
-    def learn(self, _group, _words):
+    def learn(self, _group: Group, _words: None) -> str:
         return "learnt"
 
-    def watch(self, _group, words):
+    def watch(self, _group: Group, words: tuple[str, Scan]) -> str:
         name, scan = words
         self.watches[name] = (scan, None)
         return "watching"
 
-    def poll(self, group, name):
+    def poll(self, group: Group, name: str) -> str:
         scan, last = self.watches[name]
         rows = compact(group.scan(*scan))
         self.watches[name] = (scan, rows)
         return "unchanged" if rows == last else f"new {rows}"
 
 
-def has_one_order(data):
+def kind(reply: str) -> str:
+    """Of a client's reply, which one it is: its word, and of a refusal the name too."""
+    words = reply.split(" ")
+    return " ".join(words[: 2 if words[0] == "refused" else 1])
+
+
+def has_one_order(data: bytes) -> bool:
     """Whether no phase has lines of two clients, of which either may be first."""
     try:
         script = Script().read(data)
@@ -244,13 +261,13 @@ def has_one_order(data):
     return all(len({line.client for line in phase}) < 2 for phase in script.phases)
 
 
-def printed(data):
+def printed(data: bytes) -> tuple[bytes, bytes, int]:
     """Standard output, standard error and the status."""
     try:
         script = Script().read(data)
     except Fault as fault:
         return b"", f"{fault}\n".encode(), 2
-    group = Group([script.said[word] for word in ("group", "profile", "schema")])
+    group = Group(script.identity(), mutated)
     clients = [Client(id) for id in script.ids]
     out = []
     for phase in script.phases:

@@ -1,6 +1,8 @@
 """JSON, pull responses and request bodies, as docs/FORMATS.md has them."""
 
 import json
+import re
+from typing import Any, NoReturn
 
 
 class NotJson(Exception):
@@ -20,29 +22,23 @@ BODY_DEPTH = 127
 ARGS_DEPTH = 124
 
 
-def read_json(data, depth):
+def read_json(data: bytes, depth: int) -> Any:
     """The value of these bytes; numbers that aren't whole are Fractions."""
     try:
         text = data.decode("utf-8")
-        value = json.loads(
-            text,
-            parse_int=read_int,
-            parse_float=read_float,
-            parse_constant=refuse,
-            object_pairs_hook=read_object,
-        )
+        value = json.loads(text, parse_int=read_int, parse_float=read_float, parse_constant=refuse)
     except (UnicodeDecodeError, json.JSONDecodeError, RecursionError) as error:
         raise NotJson from error
-    if text.startswith("\ufeff") or has_surrogate(value) or brackets(text) > depth:
+    if text.startswith("\ufeff") or has_surrogate(text) or brackets(text) > depth:
         raise NotJson
     return value
 
 
-def refuse(_constant):
+def refuse(_constant: str) -> NoReturn:
     raise NotJson
 
 
-def read_int(digits):
+def read_int(digits: str) -> int | Fraction:
     if digits == "-0":
         return Fraction()
     number = int(digits)
@@ -51,26 +47,23 @@ def read_int(digits):
     return read_float(digits)
 
 
-def read_float(digits):
+def read_float(digits: str) -> Fraction:
     if float(digits) in (float("inf"), float("-inf")):
         raise NotJson
     return Fraction()
 
 
-def read_object(fields):
-    # A field that a later one of its name hides must be text, too.
-    if any(has_surrogate(name) or has_surrogate(value) for name, value in fields):
-        raise NotJson
-    return dict(fields)
+STRING = re.compile(r'"(?:[^"\\]|\\.)*"')
+BRACKET = re.compile(r"[][{}]")
 
 
-def has_surrogate(value):
-    if isinstance(value, str):
-        return any("\ud800" <= char <= "\udfff" for char in value)
-    return any(has_surrogate(part) for part in parts(value))
+def has_surrogate(text: str) -> bool:
+    """Whether a string has half of a pair, of which only an escape tells: in fields that later ones hide, too."""
+    escaped = (json.loads(string) for string in STRING.findall(text) if "\\u" in string)
+    return any("\ud800" <= char <= "\udfff" for string in escaped for char in string)
 
 
-def parts(value):
+def parts(value: Any) -> list[Any]:
     if isinstance(value, list):
         return value
     if isinstance(value, dict):
@@ -78,45 +71,36 @@ def parts(value):
     return []
 
 
-def brackets(text):
+def brackets(text: str) -> int:
     """How deep the text nests, fields that are hidden by later ones among it."""
     depth = deepest = 0
-    in_text = is_escaped = False
-    for char in text:
-        if in_text:
-            in_text = is_escaped or char != '"'
-            is_escaped = not is_escaped and char == "\\"
-        elif char == '"':
-            in_text = True
-        elif char in "[{":
-            depth += 1
-            deepest = max(deepest, depth)
-        elif char in "]}":
-            depth -= 1
+    for bracket in BRACKET.findall(STRING.sub("", text)):
+        depth += 1 if bracket in "[{" else -1
+        deepest = max(deepest, depth)
     return deepest
 
 
-def is_whole(value):
+def is_whole(value: Any) -> bool:
     return not isinstance(value, Fraction) and all(is_whole(part) for part in parts(value))
 
 
-def is_int(value):
+def is_int(value: Any) -> bool:
     return isinstance(value, int) and not isinstance(value, bool)
 
 
-def is_number(value):
+def is_number(value: Any) -> bool:
     return is_int(value) or isinstance(value, Fraction)
 
 
 ESCAPES = {'"': '\\"', "\\": "\\\\", "\b": "\\b", "\t": "\\t", "\n": "\\n", "\f": "\\f", "\r": "\\r"}
+ESCAPED = str.maketrans({chr(code): f"\\u{code:04x}" for code in range(32)} | ESCAPES)
 
 
-def quoted(text):
-    chars = (ESCAPES.get(char) or (char if char >= " " else f"\\u{ord(char):04x}") for char in text)
-    return f'"{"".join(chars)}"'
+def quoted(text: str) -> str:
+    return f'"{text.translate(ESCAPED)}"'
 
 
-def compact(value):
+def compact(value: Any) -> str:
     """The value as a text without white space, its fields sorted by their names' bytes."""
     if isinstance(value, str):
         return quoted(value)
@@ -128,7 +112,7 @@ def compact(value):
     return {None: "null", True: "true", False: "false"}[value] if not is_int(value) else str(value)
 
 
-def read_response(data):
+def read_response(data: bytes) -> tuple[str | None, Any]:
     """The error that a body brings, or None; and else its cookie, its changed ids and its patch."""
     try:
         body = read_json(data, BODY_DEPTH)
@@ -149,7 +133,7 @@ def read_response(data):
     return None, (cookie, changes, patch)
 
 
-def error_of(body):
+def error_of(body: dict[str, Any]) -> str:
     if body["error"] == "ClientStateNotFound":
         return "StateNotFound"
     if body["error"] != "VersionNotSupported":
@@ -159,30 +143,30 @@ def error_of(body):
     return f"VersionNotSupported {kind if known else 'unknown'}"
 
 
-def is_cookie(cookie):
+def is_cookie(cookie: Any) -> bool:
     if isinstance(cookie, dict):
         order = cookie.get("order")
         return isinstance(order, str) or is_number(order)
     return cookie is None or isinstance(cookie, str) or is_number(cookie)
 
 
-def are_changes(changes):
+def are_changes(changes: Any) -> bool:
     return isinstance(changes, dict) and all(
         isinstance(id, Fraction) or is_int(id) and 0 <= id <= 2**52 for id in changes.values()
     )
 
 
-def is_patch(patch):
+def is_patch(patch: Any) -> bool:
     return isinstance(patch, list) and all(isinstance(op, dict) and is_operation(op) for op in patch)
 
 
-def is_operation(op):
+def is_operation(op: dict[str, Any]) -> bool:
     has_key = isinstance(op.get("key"), str)
     shapes = {"put": has_key and "value" in op, "del": has_key, "clear": True}
     return isinstance(op.get("op"), str) and shapes.get(op["op"], False)
 
 
-def order_of(cookie):
+def order_of(cookie: Any) -> tuple[Any, ...]:
     """What cookies are compared by: null, then numbers, then texts by their bytes."""
     order = cookie["order"] if isinstance(cookie, dict) else cookie
     if order is None:
