@@ -5,27 +5,60 @@ pub const COUNTERS: u64 = 1_000;
 
 pub const CLIENT: &str = "00000000-0000-4000-8000-000000000000";
 
+/// The ID of the client with this number, where `CLIENT` is 0.
+pub fn client_id(number: u64) -> String {
+    format!("00000000-0000-4000-8000-{number:012x}")
+}
+
 pub fn item(number: u64) -> String {
     format!("item/{number:08}")
 }
 
+/// In which order the members of a value stand: by their bytes, or as a program made them.
+#[derive(Clone, Copy)]
+pub enum Members {
+    Sorted,
+    AsMade,
+}
+
+/// What a pull brings: items, and the counters where they are asked for.
+#[derive(Clone, Copy)]
+pub struct Puts {
+    pub from: u64,
+    pub count: u64,
+    pub counters: bool,
+    pub members: Members,
+}
+
+pub const NOTHING: Puts = Puts { from: 0, count: 0, counters: false, members: Members::Sorted };
+
+impl Puts {
+    pub fn of(from: u64, count: u64) -> Puts {
+        Puts { from, count, ..NOTHING }
+    }
+}
+
+fn put_item(out: &mut String, number: u64, members: Members) {
+    write!(out, r#"{{"op":"put","key":"item/{number:08}","value":"#).unwrap();
+    match members {
+        Members::Sorted => write!(out, r#"{{"done":false,"order":{number},"text":"buy some milk"}}}}"#).unwrap(),
+        Members::AsMade => write!(out, r#"{{"text":"buy some milk","done":false,"order":{number}}}}}"#).unwrap(),
+    }
+}
+
 /// The response with this cookie that confirms the client's mutations up to an ID.
-pub fn body(cookie: u64, id: u64, from: u64, count: u64, counters: bool) -> Vec<u8> {
+pub fn body(cookie: u64, id: u64, puts: Puts) -> Vec<u8> {
     let mut out = format!(r#"{{"cookie":{cookie},"lastMutationIDChanges":{{"{CLIENT}":{id}}},"patch":["#);
-    if counters {
+    if puts.counters {
         for number in 0..COUNTERS {
             write!(out, r#"{{"op":"put","key":"ctr/{number:04}","value":0}},"#).unwrap();
         }
     }
-    for number in from..from + count {
-        if number > from {
+    for number in puts.from..puts.from + puts.count {
+        if number > puts.from {
             out.push(',');
         }
-        write!(
-            out,
-            r#"{{"op":"put","key":"item/{number:08}","value":{{"done":false,"order":{number},"text":"buy some milk"}}}}"#
-        )
-        .unwrap();
+        put_item(&mut out, number, puts.members);
     }
     out.push_str("]}");
     out.into_bytes()

@@ -1,16 +1,20 @@
 //! The jobs of one thread, as the program of this bench has them.
-use crate::bodies::{body, item, CLIENT, COUNTERS};
+//!
+//! A function that a job times is never a part of its caller, so that `bench/group/count` finds it.
+use crate::bodies::{body, Members, Puts, NOTHING};
+use crate::crowds::{clients_in_turn, idle_first, mutate_threads};
+use crate::filled::{args, args_of, asked, many_args, Filled};
 use crate::numbers::Numbers;
 use crate::wire::read_response;
-use crate::{Args, Group, Identity, Text};
-use serde_json::value::RawValue;
+use crate::{Args, Group, Rows};
 use std::hint::black_box;
 use std::io::{self, BufRead};
-use std::sync::Arc;
 
 const GETS: u64 = 300_000;
 const MUTATIONS: u64 = 200;
 const PUTS: u64 = 10_000;
+const ROUNDS: u64 = 50;
+const IN_A_ROW: u64 = 20;
 const SCANS: u64 = 2_000;
 const ROWS: u64 = 100;
 
@@ -22,7 +26,7 @@ fn now() -> u64 {
 }
 
 /// The least time of one operation, of so many turns.
-fn best(turns: u64, operations: u64, mut turn: impl FnMut()) -> u64 {
+pub fn best(turns: u64, operations: u64, mut turn: impl FnMut()) -> u64 {
     (0..turns)
         .map(|_| {
             let start = now();
@@ -33,94 +37,19 @@ fn best(turns: u64, operations: u64, mut turn: impl FnMut()) -> u64 {
         .unwrap_or(0)
 }
 
-pub fn args(number: u64) -> Args {
-    let text = format!(r#"["ctr/{number:04}",1]"#);
-    Arc::from(RawValue::from_string(text).expect("arguments are JSON"))
-}
-
-pub fn many_args(seed: u64, count: u64) -> Vec<Args> {
-    let mut numbers = Numbers::new(seed);
-    (0..count).map(|_| args(numbers.below(COUNTERS))).collect()
-}
-
-/// A group that is filled, and its client.
-pub struct Filled<G> {
-    pub group: Arc<G>,
-    pub keys: u64,
-    client: Text,
-    incr: Text,
-    cookie: u64,
-    id: u64,
-}
-
-impl<G: Group> Filled<G> {
-    pub fn new(keys: u64) -> Filled<G> {
-        let mut filled = Filled {
-            group: Arc::new(G::new(Identity::bench())),
-            keys,
-            client: Text::from(CLIENT),
-            incr: Text::from("incr"),
-            cookie: 0,
-            id: 0,
-        };
-        for part in 0..keys.div_ceil(PUTS) {
-            let from = part * PUTS;
-            filled.pull(from, (keys - from).min(PUTS), part == 0);
-        }
-        filled
+#[inline(never)]
+fn get_each<G: Group>(group: &G, keys: &[String], out: &mut Vec<u8>) {
+    for key in keys {
+        out.clear();
+        group.get(key, out);
     }
-
-    fn response_after(&mut self, id: u64, from: u64, count: u64, counters: bool) -> Vec<u8> {
-        self.cookie += 1;
-        body(self.cookie, id, from, count, counters)
-    }
-
-    /// The next response, which confirms all.
-    fn response(&mut self, from: u64, count: u64, counters: bool) -> Vec<u8> {
-        self.response_after(self.id, from, count, counters)
-    }
-
-    fn end(&self, body: &[u8]) {
-        self.group.end_pull_bytes(body).expect("the pull is applied");
-    }
-
-    fn pull(&mut self, from: u64, count: u64, counters: bool) {
-        let body = self.response(from, count, counters);
-        self.end(&body);
-    }
-
-    pub fn confirm(&mut self) {
-        self.pull(0, 0, false);
-    }
-
-    pub fn incr(&mut self, args: &Args) {
-        self.id += 1;
-        self.group.mutate(&self.client, self.id, &self.incr, args, 1).expect("the mutation is made");
-    }
-
-    pub fn add(&mut self, count: u64) {
-        let mut numbers = Numbers::new(5);
-        for _ in 0..count {
-            self.incr(&args(numbers.below(COUNTERS)));
-        }
-    }
-}
-
-pub fn asked(seed: u64, keys: u64, count: u64) -> Vec<String> {
-    let mut numbers = Numbers::new(seed);
-    (0..count).map(|_| item(numbers.below(keys))).collect()
 }
 
 fn get<G: Group>(keys: u64) -> u64 {
     let filled = Filled::<G>::new(keys);
     let asked = asked(77, keys, GETS);
     let mut out = Vec::new();
-    best(7, GETS, || {
-        for key in &asked {
-            out.clear();
-            filled.group.get(key, &mut out);
-        }
-    })
+    best(7, GETS, || get_each(&*filled.group, &asked, &mut out))
 }
 
 fn get_in_one<G: Group>(keys: u64) -> u64 {
@@ -136,18 +65,76 @@ fn mutate<G: Group>(keys: u64, pending: u64) -> u64 {
     let mut least = u64::MAX;
     for _ in 0..15 {
         filled.add(pending);
-        least = least.min(best(1, MUTATIONS, || args.iter().for_each(|one| filled.incr(one))));
+        least = least.min(best(1, MUTATIONS, || filled.incr_each(&args)));
         filled.confirm();
     }
     least
 }
 
-fn pull<G: Group>(keys: u64) -> u64 {
+fn args_of_new(numbers: &mut Numbers, keys: u64) -> Vec<Args> {
+    (0..MUTATIONS)
+        .map(|_| {
+            let (number, beside) = (numbers.below(keys), numbers.below(1_000_000));
+            let text = "buy some milk and more of it, and bread and butter";
+            args_of(format!(r#"["item/{number:08}x{beside}","{text}"]"#))
+        })
+        .collect()
+}
+
+fn new_key<G: Group>(keys: u64) -> u64 {
+    let mut filled = Filled::<G>::new(keys);
+    let mut numbers = Numbers::new(9);
+    let mut least = u64::MAX;
+    for _ in 0..10 {
+        let args = args_of_new(&mut numbers, keys);
+        least = least.min(best(1, MUTATIONS, || filled.set_each(&args)));
+        filled.confirm();
+    }
+    least
+}
+
+#[inline(never)]
+fn end_once<G: Group>(filled: &Filled<G>, body: &[u8]) {
+    filled.end(body);
+}
+
+fn pull<G: Group>(keys: u64, members: Members) -> u64 {
     let mut least = u64::MAX;
     for _ in 0..5 {
         let mut filled = Filled::<G>::new(keys);
-        let body = filled.response(keys.saturating_sub(PUTS / 2), PUTS, false);
-        least = least.min(best(1, 1, || filled.end(&body)));
+        let body = filled.response(Puts { members, ..Puts::of(keys.saturating_sub(PUTS / 2), PUTS) });
+        least = least.min(best(1, 1, || end_once(&filled, &body)));
+    }
+    least
+}
+
+fn confirm<G: Group>(keys: u64, pending: u64) -> u64 {
+    let mut filled = Filled::<G>::new(keys);
+    let mut least = u64::MAX;
+    for _ in 0..7 {
+        filled.add(pending);
+        let body = filled.response(NOTHING);
+        least = least.min(best(1, 1, || end_once(&filled, &body)));
+    }
+    least
+}
+
+#[inline(never)]
+fn go_round<G: Group>(filled: &mut Filled<G>, args: &[Args], bodies: &[Vec<u8>]) {
+    for (one, body) in args.iter().zip(bodies) {
+        filled.incr(one);
+        drop(black_box(filled.group.push_body()));
+        filled.end(body);
+    }
+}
+
+fn round<G: Group>(keys: u64) -> u64 {
+    let mut filled = Filled::<G>::new(keys);
+    let args = many_args(3, ROUNDS);
+    let mut least = u64::MAX;
+    for _ in 0..7 {
+        let bodies = filled.responses(ROUNDS, Puts::of(9, 1));
+        least = least.min(best(1, ROUNDS, || go_round(&mut filled, &args, &bodies)));
     }
     least
 }
@@ -157,8 +144,52 @@ fn rebase<G: Group>(keys: u64, pending: u64) -> u64 {
     filled.add(pending);
     let mut least = u64::MAX;
     for _ in 0..7 {
-        let body = filled.response_after(0, 7, 1, false);
-        least = least.min(best(1, 1, || filled.end(&body)));
+        let body = filled.response_of_none(Puts::of(7, 1));
+        least = least.min(best(1, 1, || end_once(&filled, &body)));
+    }
+    least
+}
+
+fn rebase_first<G: Group>(keys: u64, pending: u64) -> u64 {
+    let mut filled = Filled::<G>::new(keys);
+    let mut least = u64::MAX;
+    for _ in 0..7 {
+        filled.add(pending);
+        let body = filled.response_of_none(Puts::of(7, 1));
+        least = least.min(best(1, 1, || end_once(&filled, &body)));
+        filled.confirm();
+    }
+    least
+}
+
+/// What is changed before a poll.
+#[derive(Clone, Copy, PartialEq)]
+enum Change {
+    Nothing,
+    Elsewhere,
+    Inside,
+}
+
+#[inline(never)]
+fn poll_each<G: Group>(group: &G, kept: &mut Rows<G::Kept>, change: Change, times: u64) {
+    for _ in 0..times {
+        assert_eq!(group.poll("item/", kept), change == Change::Inside);
+    }
+}
+
+fn poll<G: Group>(keys: u64, change: Change) -> u64 {
+    let mut filled = Filled::<G>::new(keys);
+    let mut kept = Vec::new();
+    filled.group.poll("item/", &mut kept);
+    let polls = if change == Change::Nothing { IN_A_ROW } else { 1 };
+    let mut least = u64::MAX;
+    for turn in 0..9 {
+        match change {
+            Change::Nothing => (),
+            Change::Elsewhere => filled.incr(&args(turn)),
+            Change::Inside => filled.set(&args_of(format!(r#"["item/{:08}",{turn}]"#, turn * 977 % keys))),
+        }
+        least = least.min(best(1, polls, || poll_each(&*filled.group, &mut kept, change, polls)));
     }
     least
 }
@@ -181,9 +212,14 @@ fn push<G: Group>(keys: u64, pending: u64) -> u64 {
     best(25, 1, || drop(black_box(filled.group.push_body())))
 }
 
-fn read(keys: u64) -> u64 {
-    let body = body(1, 0, 0, keys, false);
-    best(15, 1, || drop(black_box(read_response(&body).expect("the response can be read"))))
+#[inline(never)]
+fn read_once(body: &[u8]) {
+    drop(black_box(read_response(body).expect("the response can be read")));
+}
+
+fn read(keys: u64, members: Members) -> u64 {
+    let body = body(1, 0, Puts { members, ..Puts::of(0, keys) });
+    best(15, 1, || read_once(&body))
 }
 
 fn run<G: Group>(job: &str, keys: u64, pending: u64) -> Option<u64> {
@@ -191,11 +227,23 @@ fn run<G: Group>(job: &str, keys: u64, pending: u64) -> Option<u64> {
         "get" => get::<G>(keys),
         "get_in_one" => get_in_one::<G>(keys),
         "mutate" => mutate::<G>(keys, pending),
-        "pull" => pull::<G>(keys),
+        "clients_in_turn" => clients_in_turn::<G>(keys, pending),
+        "idle_first" => idle_first::<G>(keys, pending),
+        "mutate_threads" => mutate_threads::<G>(keys, pending),
+        "new_key" => new_key::<G>(keys),
+        "pull" => pull::<G>(keys, Members::Sorted),
+        "pull_unsorted" => pull::<G>(keys, Members::AsMade),
+        "confirm" => confirm::<G>(keys, pending),
+        "round" => round::<G>(keys),
         "rebase" => rebase::<G>(keys, pending),
+        "rebase_first" => rebase_first::<G>(keys, pending),
+        "poll_same" => poll::<G>(keys, Change::Nothing),
+        "poll_elsewhere" => poll::<G>(keys, Change::Elsewhere),
+        "poll_inside" => poll::<G>(keys, Change::Inside),
         "scan" => scan::<G>(keys),
         "push" => push::<G>(keys, pending),
-        "read" => read(keys),
+        "read" => read(keys, Members::Sorted),
+        "read_unsorted" => read(keys, Members::AsMade),
         _ => return None,
     })
 }
@@ -211,8 +259,9 @@ fn run_line<G: Group>(line: &str) -> Option<()> {
         }
         return Some(());
     }
-    let time = run::<G>(job, keys, pending)?;
-    println!("{job}\t{}\t{keys}\t{pending}\t{time}\tns", G::VARIANT);
+    let value = run::<G>(job, keys, pending)?;
+    let unit = if job == "mutate_threads" { "a second" } else { "ns" };
+    println!("{job}\t{}\t{keys}\t{pending}\t{value}\t{unit}", G::VARIANT);
     Some(())
 }
 

@@ -1,5 +1,5 @@
 //! Three readers beside a writer.
-use crate::jobs::{asked, many_args, Filled};
+use crate::filled::{asked, many_args, Filled};
 use crate::Group;
 use std::sync::atomic::{AtomicBool, Ordering};
 use std::time::{Duration, Instant};

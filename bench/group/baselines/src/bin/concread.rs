@@ -3,8 +3,9 @@
 //! Left out: what `persistent` leaves out. A rebase sets the keys of the pending mutations back to their pulled values,
 //! which is right for the mutators of the jobs alone: each changes the key that its arguments begin with.
 use baselines::wire::{push_body, write_row, Change, Cookie, Response};
-use baselines::{run, Args, Group, Identity, Mutation, Refusal, Text, View};
+use baselines::{keep_others, run, Args, Group, Identity, Mutation, Refusal, Rows, Text, View};
 use concread::bptree::{BptreeMap, BptreeMapWriteTxn};
+use serde::de::IgnoredAny;
 use std::collections::{BTreeMap, HashMap};
 use std::ops::Bound;
 use std::sync::{Arc, Mutex};
@@ -38,7 +39,7 @@ impl State {
     /// Sets the keys that pending mutations changed back to what was pulled.
     fn undo(&self, view: &mut Writer<'_>) {
         for mutation in &self.pending {
-            let (key, _): (String, i64) = serde_json::from_str(mutation.args.get()).expect("arguments are read");
+            let (key, _): (String, IgnoredAny) = serde_json::from_str(mutation.args.get()).expect("arguments are read");
             match self.pulled.get(&*key) {
                 Some(value) => drop(view.0.insert(Kept::from(key), value.clone())),
                 None => drop(view.0.remove(&Kept::from(key))),
@@ -75,6 +76,7 @@ struct Snapshots {
 
 impl Group for Snapshots {
     const VARIANT: &'static str = "concread";
+    type Kept = Kept;
 
     fn new(identity: Identity) -> Snapshots {
         Snapshots { identity, view: BptreeMap::new(), state: Mutex::new(State::new()) }
@@ -105,6 +107,12 @@ impl Group for Snapshots {
             write_row(out, key, value);
         }
         out.push(b']');
+    }
+
+    fn poll(&self, prefix: &str, kept: &mut Rows<Kept>) -> bool {
+        let view = self.view.read();
+        let from = || view.range((Bound::Included(Kept::from(prefix)), Bound::Unbounded));
+        keep_others(|| from().take_while(|(key, _)| key.starts_with(prefix)), kept)
     }
 
     fn mutate(&self, client: &Text, id: u64, name: &Text, args: &Args, time: u64) -> Result<(), Refusal> {

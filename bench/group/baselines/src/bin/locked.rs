@@ -5,7 +5,7 @@
 //! pull overtook this one, cookies with a field `order`, closing, and names that come twice in a response. Nobody reads
 //! while a pull is applied; the response is read before the lock is taken, and the old view is dropped after it.
 use baselines::wire::{push_body, write_row, Change, Cookie, Response};
-use baselines::{run, Args, Group, Identity, Mutation, Refusal, Text, View};
+use baselines::{keep_others, run, Args, Group, Identity, Mutation, Refusal, Rows, Text, View};
 use std::cmp::Ordering;
 use std::collections::{BTreeMap, HashMap};
 use std::ops::Bound;
@@ -78,6 +78,7 @@ struct Locked {
 
 impl Group for Locked {
     const VARIANT: &'static str = "locked";
+    type Kept = String;
 
     fn new(identity: Identity) -> Locked {
         let state = RwLock::new(State {
@@ -116,6 +117,12 @@ impl Group for Locked {
             write_row(out, key, value);
         }
         out.push(b']');
+    }
+
+    fn poll(&self, prefix: &str, kept: &mut Rows<String>) -> bool {
+        let state = self.state.read().unwrap();
+        let from = || state.view.0.range::<str, _>((Bound::Included(prefix), Bound::Unbounded));
+        keep_others(|| from().take_while(|(key, _)| key.starts_with(prefix)), kept)
     }
 
     fn mutate(&self, client: &Text, id: u64, name: &Text, args: &Args, time: u64) -> Result<(), Refusal> {

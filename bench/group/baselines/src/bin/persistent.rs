@@ -6,7 +6,7 @@
 //! come twice in a response.
 use arc_swap::ArcSwap;
 use baselines::wire::{push_body, write_row, Change, Cookie, Response};
-use baselines::{run, Args, Group, Identity, Mutation, Refusal, Text, View};
+use baselines::{keep_others, run, Args, Group, Identity, Mutation, Refusal, Rows, Text, View};
 use im::{OrdMap, Vector};
 use std::cmp::Ordering;
 use std::collections::HashMap;
@@ -97,6 +97,7 @@ struct Persistent {
 
 impl Group for Persistent {
     const VARIANT: &'static str = "persistent";
+    type Kept = Kept;
 
     fn new(identity: Identity) -> Persistent {
         let version = ArcSwap::from_pointee(Version {
@@ -135,6 +136,12 @@ impl Group for Persistent {
             write_row(out, key, value);
         }
         out.push(b']');
+    }
+
+    fn poll(&self, prefix: &str, kept: &mut Rows<Kept>) -> bool {
+        let version = self.version.load();
+        let from = || version.view.0.range::<_, str>((Bound::Included(prefix), Bound::Unbounded));
+        keep_others(|| from().take_while(|(key, _)| key.starts_with(prefix)), kept)
     }
 
     fn mutate(&self, client: &Text, id: u64, name: &Text, args: &Args, time: u64) -> Result<(), Refusal> {

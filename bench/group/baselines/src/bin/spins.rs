@@ -1,7 +1,7 @@
 //! Threads that share nothing and count: what the machine alone does to a reader's pauses. Of its figures the pauses of
 //! `readers` alone mean something.
 use baselines::wire::Response;
-use baselines::{Args, Group, Identity, Refusal, Text};
+use baselines::{Args, Group, Identity, Refusal, Rows, Text};
 use std::hint::black_box;
 
 /// As long as a get takes, by and large, and as a mutation does.
@@ -20,6 +20,7 @@ struct Spins;
 
 impl Group for Spins {
     const VARIANT: &'static str = "spins";
+    type Kept = ();
 
     fn new(_: Identity) -> Spins {
         Spins
@@ -32,6 +33,10 @@ impl Group for Spins {
     fn get_each(&self, _: &[String], _: &mut Vec<u8>) {}
 
     fn scan(&self, _: &str, _: usize, _: &mut Vec<u8>) {}
+
+    fn poll(&self, _: &str, _: &mut Rows<()>) -> bool {
+        false
+    }
 
     fn mutate(&self, _: &Text, _: u64, _: &Text, _: &Args, _: u64) -> Result<(), Refusal> {
         spin(MUTATION);
