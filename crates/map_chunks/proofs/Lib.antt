@@ -1,5 +1,6 @@
 pub mod AnswerLemmas
 mod ChildLemmas
+pub mod CoverLemmas
 mod DepthLemmas
 pub mod LineLemmas
 mod LookLemmas

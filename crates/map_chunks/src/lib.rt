@@ -5,7 +5,8 @@
 //! a store may count its readers by it. `VecChunks` keeps them in a vector, behind which a `Draft` has the nodes that
 //! are placed next. The modules go down from a placed chunk: `placed` to a key's value, `seeking` to whether a key is
 //! there, `seconds` to the second key, and `ends` past chunks with one child, each by `look_at`, which shows a closure
-//! one chunk; `scanning` along the leaves, whose rows go into what `sinks` is about, while the chunks above are shown.
+//! one chunk; `scanning` along the leaves, whose rows go into what `sinks` is about, while the chunks above are shown;
+//! `covers` to the few topmost chunks in which a scan's rows lie.
 //! `keys`, `entries` and `search` are what a changed chunk's keys need, whoever owns the chunk: up to 16 entries stay
 //! together; of 17 the first 8 stay and the last 9 are handed out (`insert_entry`).
 //!
@@ -23,6 +24,7 @@
 #![tactic(auto)]
 
 mod chunks;
+pub mod covers;
 mod drafts;
 pub mod ends;
 pub mod entries;

@@ -26,9 +26,9 @@ use std::alloc::AllocError;
 
 // Children of a chunk, and their first keys.
 #[derive(Clone, Copy)]
-struct Below<'a> {
-    firsts: &'a [Text],
-    children: &'a [Ref],
+pub(crate) struct Below<'a> {
+    pub(crate) firsts: &'a [Text],
+    pub(crate) children: &'a [Ref],
 }
 
 /// A key below which the scan has none.

@@ -1,6 +1,6 @@
 -- Why a call is refused for want of something, and what it retires.
-use Rattle.std.proofs.Common.{◌≡◌, ◌≤◌, ◌+◌, inl, inr, ℕ, false, true≢false, Option, Some, None, Result, Ok, Err, sym, ap, subst, ◌∙◌}
-use Rattle.std.proofs.Common.{arith, refl}
+use Rattle.std.proofs.Common.{◌≡◌, ◌≤◌, ◌+◌, inl, inr, ℕ, false, true≢false, Option, Some, None, Result, Ok, Err, sym}
+use Rattle.std.proofs.Common.{ap, subst, ◌∙◌, arith, refl}
 use Rattle.std.specs.Prelude.{IfErr}
 use mathlib.Core.List.{IsPrefix}
 use Rattle.group_history.specs.declared.changes.Change.{Change}

@@ -1,21 +1,27 @@
 -- What a watch has told: rows that are the same one by one are equal, and a root's rows stay.
 use Rattle.std.proofs.Common.{◌≡◌, ◌⊎◌, inl, inr, ℕ, ◌&&◌, Bool, true, false, List, Option, None, Some}
-use Rattle.std.proofs.Common.{if◌then◌else◌, refl, sym, ap, ◌∙◌}
+use Rattle.std.proofs.Common.{if◌then◌else◌, refl, sym, ap, ◌∙◌, subst}
 use Rattle.std.specs.Prelude.{IfNone, IfSome}
 use Rattle.std.specs.Bool.{Decides}
+use Rattle.std.specs.FinMap as finite
 use Rattle.std.specs.Cmp.Lexicographic.{pointwise_decides, bytes_decides}
 use Rattle.std.proofs.lemmas.Bool.{and_from}
 use mathlib.Core.List.{IsPrefix}
+use Rattle.group_history.specs.declared.scans.Scan.{Scan}
 use Rattle.group_history.specs.Map.{Bytes, Entries}
 use Rattle.group_history.specs.Map.{same_text as same_bytes}
+use Rattle.group_history.specs.Scans.{limited, rows_of}
 use Rattle.group_history.specs.Spelling.{map_at}
 use Rattle.head_word.specs.declared.entry.Entry.{Entry}
 use Rattle.head_word.specs.Books.{drawn}
 use Rattle.head_word.proofs.BookLaws.{drawn_begins}
 use Rattle.commit_graph.proofs.Spelled.{map-grown}
+use Rattle.map_chunks.specs.Scanning.{scanned}
+use Rattle.map_chunks.proofs.CoverLemmas.{cover_same}
 use Rattle.transactions.proofs.RowLemmas.{pair_is}
 use Rattle.rebase.specs.declared.watching.Polled.TheVariants as polled
 use Rattle.group_history.specs.Rows.{Rows}
+use Rattle.rebase.specs.Inside.Watching.{CoversMap}
 use Rattle.rebase.specs.Watching.{poll_reply, same_rows, was_told}
 
 one_map : {m n : Entries} (o : Option Entries) → o ≡ Some m → o ≡ Some n → m ≡ n
@@ -30,6 +36,19 @@ read_again mine theirs root at m n (inl more) was is same =
 read_again mine theirs root at m n (inr more) was is same =
     one_map (map_at (drawn mine) root) was
     (ap (map_at (drawn mine)) same ∙ map-grown (drawn theirs) (drawn mine) at n (drawn_begins theirs mine more) is)
+
+-- where two who know one book have a scan's rows in the same chunks, they have the same rows
+pub covered_again : (mine theirs : List Entry) (scan : Scan) (ks js : List ℕ) (m n : Entries)
+    → IsPrefix mine theirs ⊎ IsPrefix theirs mine → CoversMap (drawn mine) scan ks m
+    → CoversMap (drawn theirs) scan js n → ks ≡ js → rows_of scan m ≡ rows_of scan n
+covered_again mine theirs scan ks js m n (inl more) was is same =
+    ap (limited scan.limit) (cover_same scan (drawn mine) (drawn theirs) ks (scanned scan (finite.entries m))
+    (scanned scan (finite.entries n)) (drawn_begins mine theirs more) was
+    (subst (λ w. CoversMap (drawn theirs) scan w n) (sym same) is))
+covered_again mine theirs scan ks js m n (inr more) was is same =
+    ap (limited scan.limit) (sym (cover_same scan (drawn theirs) (drawn mine) ks (scanned scan (finite.entries n))
+    (scanned scan (finite.entries m)) (drawn_begins theirs mine more)
+    (subst (λ w. CoversMap (drawn theirs) scan w n) (sym same) is) was))
 
 both : (a b : Bool) → (a && b) ≡ true → (a ≡ true) × (b ≡ true)
 both true b h = (refl, h)

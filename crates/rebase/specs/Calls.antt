@@ -1,7 +1,7 @@
 -- The calls of a client: what is right to reply to each, the change that a reply stands for, and when a list of calls
 -- is answered as a group of one thread answers it. What a refused call leaves is this project's own rule.
-use Rattle.std.specs.Prelude.{ℕ, ◌≡◌, ◌⊎◌, ◌+◌, ◌-◌, Bool, true, false, List, [], ◌∷◌, length, filter, Option, Some, None}
-use Rattle.std.specs.Prelude.{Result, Ok, Err, IfErr}
+use Rattle.std.specs.Prelude.{ℕ, ◌≡◌, ◌⊎◌, ◌+◌, ◌-◌, Bool, true, false, List, [], ◌∷◌, length, filter, Option, Some}
+use Rattle.std.specs.Prelude.{None, Result, Ok, Err, IfErr}
 use Rattle.group_history.specs.declared.changes.Change.{Change}
 use Rattle.group_history.specs.declared.changes.Change.TheVariants.{Mutated}
 use Rattle.group_history.specs.declared.mutations.Mutation.{Mutation}
@@ -126,8 +126,8 @@ pub record IsMade (means : Meanings) (reused : Type 0) (tries : ℕ) (c : Caller
   pub cause : IfErr r (HasCause means reused c.last (change_for c x) old new)
   pub frees : is_reading x ≡ false → reused → Frees (change_for c x) (spared r) old new (change_of c x r)
 
--- So is each call of the list. It begins with what the client's seat knew at the end of the call before, so its point is
--- not before that of the other one.
+-- So is each call of the list. It begins with what the client's seat knew at the end of the call before, so its point
+-- is not before that of the other one.
 abbrev pub AreAnswered : Meanings → Type 0 → ℕ → Caller → Seated → List Call → List (Result Replied Refusal)
     → Seated → Caller → Type 0
 AreAnswered means reused tries c old [] [] new end = (new ≡ old) × (end ≡ c)

@@ -1,5 +1,6 @@
 -- A change whose mutators the caller runs: what is shown of it while it is under way, and how its call ends.
-use Rattle.std.specs.Prelude.{ℕ, ◌≡◌, ◌⊎◌, ◌<◌, ◌∷◌, ◌++◌, Bool, true, false, List, [], max, Option, Some, None, Result, IfErr}
+use Rattle.std.specs.Prelude.{ℕ, ◌≡◌, ◌⊎◌, ◌<◌, ◌∷◌, ◌++◌, Bool, true, false, List, [], max, Option, Some, None, Result}
+use Rattle.std.specs.Prelude.{IfErr}
 use Rattle.std.specs.List.{All}
 use Rattle.group_history.specs.declared.changes.Change.{Change}
 use Rattle.group_history.specs.declared.changes.Change.TheVariants.{Mutated, Pulled, Closed}
@@ -31,8 +32,9 @@ use Rattle.rebase.specs.Clients.{Acts, ClientState, IsSameClient}
 use Rattle.rebase.specs.Replies.{Replied, ended, id}
 
 -- A change that is under way: its client, whose pin is held; the change; the mutation whose mutator is to be run, the
--- map where its run began, the map as the run has left it so far, and the mutations that are run behind it. And what had
--- been seen of the book when the head was looked at, after so many tries that were lost, of those that the call may make.
+-- map where its run began, the map as the run has left it so far, and the mutations that are run behind it. And what
+-- had been seen of the book when the head was looked at, after so many tries that were lost, of those that the call may
+-- make.
 pub record UnderWay : Type 0 where
   pub client : ClientState
   pub change : Change
@@ -70,8 +72,8 @@ pub record AsksFor (means : Meanings) (s : State) (last : ℕ) (change : Change)
 abbrev pub AreOwn : (Bytes → Bool) → List Mutation → Type 0
 AreOwn has xs = All (λ (x : Mutation). has x.name ≡ true) xs
 
--- The next run of the same try, where the one before ended so: of the next mutation behind it that the group doesn't run
--- itself, from the map that the one before and the group's runs left.
+-- The next run of the same try, where the one before ended so: of the next mutation behind it that the group doesn't
+-- run itself, from the map that the one before and the group's runs left.
 pub record IsNextRun (has : Bytes → Bool) (means : Meanings) (was : UnderWay) (ran : Ran)
     (now : UnderWay) : Type 0 where
   pub lost : now.lost ≡ was.lost
@@ -81,7 +83,8 @@ pub record IsNextRun (has : Bytes → Bool) (means : Meanings) (was : UnderWay) 
   pub order : own ++ now.mutation ∷ now.behind ≡ was.behind
   pub start : now.start ≡ replayed means (map_by ran was.map was.start) own
 
--- the first run of a change at this state: at the end of a pull, of all that stays pending but what the group runs before
+-- the first run of a change at this state: at the end of a pull, of all that stays pending but what the group runs
+-- before
 abbrev pub IsFirstAt : (Bytes → Bool) → State → Change → UnderWay → Type 0
 IsFirstAt has s (Mutated x) asking = Unit {0}
 IsFirstAt has s (Pulled ticket r) asking = (own : List Mutation) × AreOwn has own
@@ -91,8 +94,8 @@ IsFirstAt has s Closed asking = Unit {0}
 abbrev pub IsFirst : (Bytes → Bool) → UnderWay → Type 0
 IsFirst has asking = IsFirstAt has (after (record_of asking.seen)) asking.change asking
 
--- What is asked for after a run that ended so: the next run of the same try; or the try was lost, and a later one asks for
--- its first run.
+-- What is asked for after a run that ended so: the next run of the same try; or the try was lost, and a later one asks
+-- for its first run.
 abbrev pub Follows : (Bytes → Bool) → Meanings → UnderWay → Ran → UnderWay → Type 0
 Follows has means was ran now = IsNextRun has means was ran now ⊎ ((was.lost < now.lost) × IsFirst has now)
 

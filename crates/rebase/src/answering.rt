@@ -87,7 +87,8 @@ impl<M: Mutators, S: Store<M>> Client<M, S> {
         ensures last { self.new.last ≡ last_after self.old.last (map_ok reply_seen result) }
         ensures acts { Acts S.reused self.old self.new }
         ensures looks { is_reading call.entry ≡ true → Looks S.reused self.old self.new }
-        ensures cause { IfErr result (HasCause M.means S.reused self.old.last (change_for (caller_of self.old) call.entry)
+        ensures cause { IfErr result (HasCause M.means S.reused self.old.last
+            (change_for (caller_of self.old) call.entry)
             self.old.seat self.new.seat) }
         ensures frees { is_reading call.entry ≡ false → S.reused → Frees (change_for (caller_of self.old) call.entry)
             (spared result) self.old.seat self.new.seat

@@ -31,7 +31,8 @@ ghost use Rattle.rebase.specs.Clients.{Acts, ClientState, IsSameClient, Stays};
 ghost use Rattle.rebase.specs.Inside.Made.{reply_made};
 ghost use Rattle.rebase.specs.Inside.Shown.{IsShown};
 ghost use Rattle.rebase.specs.Replies.{reply_seen};
-ghost use Rattle.rebase.specs.Running.{BeganAs, EndsCall, EndsPull, Follows, IsAsked, IsFirst, IsUnwritten, last_called};
+ghost use Rattle.rebase.specs.Running.{BeganAs, EndsCall, EndsPull, Follows, IsAsked, IsFirst, IsUnwritten};
+ghost use Rattle.rebase.specs.Running.{last_called};
 
 use crate::calls::Reply;
 use crate::changes::ended_as;
@@ -46,8 +47,8 @@ use group_steps::{At, Attempt, Progress, ask_from, del, get, put, ran_from, scan
 use replays::Runs;
 use std::marker::Model;
 
-/// A change that asks for a run of a mutator. It has its client until it ends, and the client's seat is pinned. It can't
-/// be dropped: who has it says `ran` or `give_up`.
+/// A change that asks for a run of a mutator. It has its client until it ends, and the client's seat is pinned. It
+/// can't be dropped: who has it says `ran` or `give_up`.
 pub struct Asking<M: Means, S: Slots<M>> {
     client: Client<M, S>,
     change: Change,
@@ -70,7 +71,8 @@ impl<M: Means, S: Slots<M>> Model for Asking<M, S> {
 
     ghost Value = { UnderWay };
 
-    ghost coded = { Prim.hlevel (codes, entry.the_row.coded, the_change.the_row.coded, the_mutation.the_row.coded, entries_coded) };
+    ghost coded = { Prim.hlevel
+        (codes, entry.the_row.coded, the_change.the_row.coded, the_mutation.the_row.coded, entries_coded) };
 
     ghost view = { λ a. record {
       client = a.client;
@@ -84,7 +86,8 @@ impl<M: Means, S: Slots<M>> Model for Asking<M, S> {
       tries = a.tries;
     } };
 
-    ghost invariant = { λ a. IsAttempt M.means S.reused a.client.group.group a.client.seat a.client.last a.change a.attempt
+    ghost invariant = { λ a. IsAttempt M.means S.reused a.client.group.group a.client.seat
+        a.client.last a.change a.attempt
         × (a.attempt.lost < max 1 a.tries) × AsksNext a.client.id a.client.last a.change };
 }
 
@@ -135,7 +138,8 @@ impl<M: Runs, S: Store<M>> Client<M, S> {
 
     // The change asks for a run, or the call ends.
     fn go_on(self, change: Change, progress: Progress<M>, tries: u32) -> Asked<M, S>
-        requires progress { IsProgress M.has M.means S.reused self.group.group self.seat tries self.last change progress }
+        requires progress { IsProgress M.has M.means S.reused self.group.group self.seat tries
+            self.last change progress }
         requires asks { AsksNext self.id self.last change }
         ensures told { (before : ClientState) → IsSameClient before self → self.last ≡ before.last
             → IsSameSeat before.seat self.seat
@@ -191,8 +195,8 @@ impl<M: Runs, S: Store<M>> Client<M, S> {
         client.go_on(change, progress, tries)
     }
 
-    /// Makes a mutation whose mutator the caller runs. It asks for that run, anew where others moved the head first, and
-    /// ends as `try_mutate` does, with `Reply::Id`.
+    /// Makes a mutation whose mutator the caller runs. It asks for that run, anew where others moved the head first,
+    /// and ends as `try_mutate` does, with `Reply::Id`.
     pub fn ask_mutate(self, name: &Text, args: &Json, time: u64, tries: u32) -> Asked<M, S>
         ensures told { Tells result
             (IsAsked M.means S.reused tries self (Mutated (made self.id (self.last + 1) name.now args.now time)))
@@ -330,8 +334,8 @@ impl<M: Means, S: Store<M>> Asking<M, S> {
         put(&at, &mut self.attempt.run, key, value)
     }
 
-    /// Afterwards the key is not there in the run's map, whether or not it was. A refused one leaves the map. Refused as
-    /// `get` is.
+    /// Afterwards the key is not there in the run's map, whether or not it was. A refused one leaves the map. Refused
+    /// as `get` is.
     pub fn del(&mut self, key: &str) -> Result<(), Refusal>
         ensures ok { OnOk result (self.new ≡ record self.old { map = finite.remove self.old.map key.now }) }
         ensures left { OnErr result (self.new ≡ self.old) }
@@ -374,9 +378,10 @@ impl<M: Runs, S: Store<M>> Asking<M, S> {
     ghost use Rattle.rebase.specs.Asked.{Tells};
 
     /// Says how the run ended. What was done to its map is what the group's mutator of that name does there, on those
-    /// arguments, for that reason; and where that refuses or there is none, the run ends as that says. Then the next run
-    /// is asked for, or the call ends: as `try_mutate` and `try_end_pull` do. Where a new mutation's run isn't done, the
-    /// call is refused with `NoMutator` or `Refused`; a pending mutation's leaves the map as it was before it.
+    /// arguments, for that reason; and where that refuses or there is none, the run ends as that says. Then the next
+    /// run is asked for, or the call ends: as `try_mutate` and `try_end_pull` do. Where a new mutation's run isn't
+    /// done, the call is refused with `NoMutator` or `Refused`; a pending mutation's leaves the map as it was before
+    /// it.
     pub fn ran(self, ran: Ran) -> Asked<M, S>
         requires runs { RunsAs (meaning_of M.means self.mutation self.start) ran self.map }
         ensures told { (before : ClientState) → BeganAs M.means S.reused before self

@@ -200,7 +200,8 @@ impl<M: Mutators, S: Store<M>> Client<M, S> {
         ensures acts { Acts S.reused self.old self.new × (self.new.last ≡ self.old.last) }
         ensures cause { IfErr result (HasCause M.means S.reused self.old.last (Some Closed)
             self.old.seat self.new.seat) }
-        ensures frees { S.reused → Frees (Some Closed) (spared result) self.old.seat self.new.seat (change_closing result) }
+        ensures frees { S.reused → Frees (Some Closed) (spared result) self.old.seat self.new.seat
+            (change_closing result) }
     {
         match self.change(Change::Closed, tries) {
             Ok(_) => Err(Refusal::StateNotFound),
@@ -228,7 +229,8 @@ impl<M: Mutators, S: Store<M>> Client<M, S> {
             (change_read ticket.now.cookie (answer_to body.now))
             (λ s. end_bytes_reply s ticket.now.cookie.text body.now) }
         ensures acts { Acts S.reused self.old self.new × (self.new.last ≡ self.old.last) }
-        ensures cause { IfErr result (HasCause M.means S.reused self.old.last (change_wanted ticket.now.cookie (answer_to body.now))
+        ensures cause { IfErr result (HasCause M.means S.reused self.old.last
+            (change_wanted ticket.now.cookie (answer_to body.now))
             self.old.seat self.new.seat) }
         ensures frees { S.reused → Frees (change_wanted ticket.now.cookie (answer_to body.now)) (spared result)
             self.old.seat self.new.seat (change_read ticket.now.cookie (answer_to body.now) result) }
@@ -300,7 +302,8 @@ impl<M: Mutators, S: Store<M>> Client<M, S> {
             (λ s. end_bytes_reply s ticket.now.cookie.text body.now) }
         ensures lasting { is_passing result ≡ false }
         ensures acts { Acts S.reused self.old self.new × (self.new.last ≡ self.old.last) }
-        ensures cause { IfErr result (HasCause M.means S.reused self.old.last (change_wanted ticket.now.cookie (answer_to body.now))
+        ensures cause { IfErr result (HasCause M.means S.reused self.old.last
+            (change_wanted ticket.now.cookie (answer_to body.now))
             self.old.seat self.new.seat) }
         ensures frees { S.reused → FreesAnew (change_wanted ticket.now.cookie (answer_to body.now))
             self.old.seat self.new.seat (change_read ticket.now.cookie (answer_to body.now) result) }

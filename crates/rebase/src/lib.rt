@@ -17,12 +17,13 @@
 //! Gone. A group is counted by a client (`slots`), since a load without a seat tells nothing that a clause could name.
 //! A call that may wait tries 1,000 times before it begins anew; in between it has no pin and no taken slot. A watch
 //! may be polled by any client of its group: it keeps the rows told last and what was seen of the book then, so at a
-//! root that it met before a poll reads no row. A seat that comes back needs the room that it left, so `back` takes no
-//! memory. A list of calls says of each what `make_call` says of one (`IsMade`), but that the client rests in between.
+//! root that it met before, and where all chunks are the same in which its rows lie, a poll reads no row. A seat that
+//! comes back needs the room that it left, so `back` takes no memory. A list of calls says of each what `make_call`
+//! says of one (`IsMade`), but that the client rests in between.
 //! A change whose mutators the caller runs (`Asking`) has its client, so no other call is made meanwhile, and keeps the
-//! pin. It can't be dropped: a drop of what is owned has no clause, so a body that left the pin would be proved. What was
-//! known when its call began is no data of the type, so its clauses hold of each client by which it began (`BeganAs`).
-//! That a run did what the group's meanings say is the one premise, and stands on `ran`.
+//! pin. It can't be dropped: a drop of what is owned has no clause, so a body that left the pin would be proved. What
+//! was known when its call began is no data of the type, so its clauses hold of each client by which it began
+//! (`BeganAs`). That a run did what the group's meanings say is the one premise, and stands on `ran`.
 #![tactic(auto)]
 
 mod answering;

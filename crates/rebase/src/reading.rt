@@ -13,6 +13,7 @@ ghost use Rattle.map_chunks.specs.Sinks.{HasMore, HasBegun};
 ghost use Rattle.commit_graph.specs.Seats.{IsReading};
 ghost use Rattle.group_steps.specs.Missing.{IsStoreRefusal, IsMissedOrDry};
 ghost use Rattle.rebase.specs.Clients.{Stays};
+ghost use Rattle.rebase.specs.Inside.Watching.{CoversView};
 
 use crate::client::Client;
 use chunk_slots::Slots;
@@ -20,6 +21,7 @@ use commit_graph::{Seat as ClientSeat, Shared, StoreNodes};
 use group_history::{Cookie, Json, Means, Mutation, Ref, Refusal, Scan, Text};
 use group_steps::SharedGroup;
 use head_word::{Mark, one_record};
+use map_chunks::covers::Cover;
 use std::alloc::Global;
 use std::marker::Model;
 use transactions::{ReadTx as CommitTx, TakesRows};
@@ -99,7 +101,8 @@ impl<M: Means> Point<M> {
     ) -> CommitTx<StoreNodes<'a, M, S>>
         requires reading { IsReading S.reused shared.now seat.now }
         requires book { self.now.book ≡ shared.now.book }
-        ensures { result.version ≡ version_of M.means (after (record_of self.now.log)) }
+        ensures version { result.version ≡ version_of M.means (after (record_of self.now.log)) }
+        ensures contents { result.contents ≡ drawn self.now.log }
     {
         let nodes = StoreNodes::new(shared, seat, &self.mark, tries);
         CommitTx::at(shared.alloc, nodes, self.head, self.root)
@@ -143,10 +146,11 @@ impl<'a, M: Means, S: Slots<M>> ReadTx<'a, M, S> {
         client.group.shared.alloc
     }
 
-    // Its commit. The client's pin is held as long as there is the reader; that is looked at, since no type can keep what
-    // holds behind a `&mut` until the reader is let go, and not a moment longer.
+    // Its commit. The client's pin is held as long as there is the reader; that is looked at, since no type can keep
+    // what holds behind a `&mut` until the reader is let go, and not a moment longer.
     pub(crate) fn commit(&self) -> Result<CommitTx<StoreNodes<'_, M, S>>, Refusal>
         ensures version { IfOk result (λ tx. tx.version ≡ version_of M.means (read_by self.now)) }
+        ensures contents { IfOk result (λ tx. tx.contents ≡ drawn (seen_by self.now).log) }
         ensures gone { IfErr result (λ e. e ≡ Gone) }
     {
         let client = &*self.client;
@@ -198,6 +202,15 @@ impl<'a, M: Means, S: Slots<M>> ReadTx<'a, M, S> {
     {
         let mut tx = self.commit()?;
         Ok(tx.scan_into(scan, sink)?)
+    }
+
+    // The chunks in which the rows lie that the scan asks for, its limit aside.
+    pub(crate) fn cover(&self, scan: &Scan) -> Result<Cover, Refusal>
+        ensures cover { IfOk result (λ cover. CoversView M.means (seen_by self.now).log scan.now cover) }
+        ensures err { IfErr result (IsMissedOrDry S.reused) }
+    {
+        let mut tx = self.commit()?;
+        Ok(tx.cover(scan)?)
     }
 
     /// Whether the view has no key. Takes no memory.

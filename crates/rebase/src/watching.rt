@@ -1,9 +1,11 @@
 //! Queries that are asked again and again, and answered where their rows are new.
 //!
-//! A watch keeps the rows that it answered last, and the root of the map that they were read from. What a stamp
-//! spells never changes, so at a commit of the same root the rows are the same, and none is read. Its type
-//! keeps that the rows are those of the root (`AreRead`), in what was seen of the book when they were read; of that and
-//! what a client has seen one begins the other.
+//! A watch keeps the rows that it answered last, the root of the map that they were read from, and the few topmost
+//! chunks in which the rows of its scan lie there (`Cover`). What a stamp spells never changes. So at a commit of the
+//! same root the rows are the same; and where other keys changed the root is another, but the chunks are the same, and
+//! so the rows are. In both cases none is read. The type keeps that the rows are those of the root and lie in the
+//! chunks (`AreRead`), in what was seen of the book when they were read; of that and what a client has seen one begins
+//! the other.
 ghost use Rattle.std.specs.Prelude.{◌≡◌, ◌⊎◌, Some, None, Ok, true, IfOk, IfErr, IfNone, IfSome};
 ghost use Rattle.std.specs.Cmp as laws;
 ghost use mathlib.Core.List.{IsPrefix};
@@ -13,6 +15,7 @@ ghost use Rattle.head_word.specs.Books.{record_of};
 ghost use Rattle.answered.specs.Answered.{IsLinearized, no_change};
 ghost use Rattle.group_steps.specs.Missing.{IsMissedOrDry};
 ghost use Rattle.rebase.specs.Clients.{Stays};
+ghost use Rattle.rebase.specs.Inside.Watching.{CoversView};
 ghost use Rattle.rebase.specs.Readers.{read_by, seen_by};
 ghost use Rattle.rebase.specs.Watching.{Watched, poll_at, poll_reply, same_rows, same_rows-equiv, was_told};
 ghost use Rattle.rebase.specs.Watching.{watch_after};
@@ -22,6 +25,7 @@ use crate::reading::{Point, ReadTx};
 use chunk_slots::Slots;
 use group_history::{Json, Means, Ref, Refusal, Scan, Text};
 use head_word::Mark;
+use map_chunks::covers::Cover;
 use std::alloc::{AllocError, Global};
 use std::marker::{Brand, Model};
 use std::sync::Arc;
@@ -89,10 +93,11 @@ pub enum Polled {
     Unchanged,
 }
 
-/// The rows that were answered last, and the root of the map that they were read from.
+/// The rows that were answered last, the root of the map that they were read from, and the chunks in which they lie.
 #[derive(Drop)]
 pub(crate) struct LastAnswer {
     root: Ref,
+    cover: Cover,
     rows: Rows,
 }
 
@@ -102,6 +107,7 @@ fn copy_of(last: &Option<LastAnswer>) -> Result<Option<LastAnswer>, AllocError>
     match last {
         Some(told) => Ok(Some(LastAnswer {
             root: told.root,
+            cover: told.cover.clone()?,
             rows: told.rows.clone()?,
         })),
         None => Ok(None),
@@ -172,6 +178,20 @@ impl<M: Means> Watch<M> {
         }
     }
 
+    // Whether the rows lie in the chunks in which they lay when they were read last.
+    fn has_covered(&self, at: &Point<M>, cover: &Cover) -> bool
+        requires book { self.now.book ≡ at.now.book }
+        requires cover { CoversView M.means at.now.log self.now.scan cover.now }
+        ensures { result ≡ true → self.now.last ≡ Some (view_rows M.means (after
+            (record_of at.now.log)) self.now.scan) }
+    {
+        at.begins_or_follows(&self.mark);
+        match &self.last {
+            Some(told) => told.cover == *cover,
+            None => false,
+        }
+    }
+
     fn has_told(&self, rows: &Rows) -> bool
         ensures { result ≡ was_told self.now.last rows.now }
     {
@@ -182,43 +202,47 @@ impl<M: Means> Watch<M> {
     }
 
     // Keeps the rows that were read there as the last ones.
-    fn keep(&mut self, at: &Point<M>, rows: Rows)
+    fn keep(&mut self, at: &Point<M>, cover: Cover, rows: Rows)
         requires book { self.old.book ≡ at.now.book }
+        requires cover { CoversView M.means at.now.log self.old.scan cover }
         requires rows { rows ≡ view_rows M.means (after (record_of at.now.log)) self.old.scan }
         ensures { self.new ≡ record self.old { last = Some rows } }
     {
         self.last = Some(LastAnswer {
             root: at.root(),
+            cover,
             rows,
         });
         self.mark = at.mark();
     }
 
     // Answers by the rows that were read there.
-    fn tell(&mut self, at: &Point<M>, rows: Rows) -> Result<Polled, AllocError>
+    fn tell(&mut self, at: &Point<M>, cover: Cover, rows: Rows) -> Result<Polled, AllocError>
         requires book { self.old.book ≡ at.now.book }
+        requires cover { CoversView M.means at.now.log self.old.scan cover }
         requires rows { rows ≡ view_rows M.means (after (record_of at.now.log)) self.old.scan }
         ensures value { IfOk result (λ polled. polled ≡ poll_reply self.old.last rows) }
         ensures kept { IfOk result (λ polled. self.new ≡ watch_after self.old (Ok polled)) }
         ensures left { IfErr result (λ _. self.new ≡ self.old) }
     {
         if self.has_told(&rows) {
-            self.keep(at, rows);
+            self.keep(at, cover, rows);
             return Ok(Polled::Unchanged);
         }
         let kept = rows.clone()?;
-        self.keep(at, kept);
+        self.keep(at, cover, kept);
         Ok(Polled::New(rows))
     }
 
     // Stays as it is, at a point where the rows are those that were told last.
-    fn stay(&mut self, at: &Point<M>)
+    fn stay(&mut self, at: &Point<M>, cover: Cover)
         requires book { self.old.book ≡ at.now.book }
+        requires cover { CoversView M.means at.now.log self.old.scan cover }
         requires rows { self.old.last ≡ Some (view_rows M.means (after (record_of at.now.log)) self.old.scan) }
         ensures { self.new ≡ self.old }
     {
         if let Some(told) = self.last.take() {
-            self.keep(at, told.rows);
+            self.keep(at, cover, told.rows);
         }
     }
 
@@ -240,6 +264,27 @@ impl<M: Means> Watch<M> {
         others_than::<Brand, M, S>(told.rows.as_slice(), tx, &self.scan)
     }
 
+    // Answers by the rows at a reader's point, which lie in these chunks.
+    fn compare<S: Slots<M>>(
+        &mut self,
+        tx: &ReadTx<'_, M, S>,
+        cover: Cover,
+    ) -> Result<Polled, Refusal>
+        requires book { self.old.book ≡ (seen_by tx.now).book }
+        requires cover { CoversView M.means (seen_by tx.now).log self.old.scan cover }
+        ensures value { IfOk result (λ polled. polled ≡ poll_at M.means self.old (read_by tx.now)) }
+        ensures kept { IfOk result (λ polled. self.new ≡ watch_after self.old (Ok polled)) }
+        ensures left { IfErr result (λ _. self.new ≡ self.old) }
+        ensures err { IfErr result (IsMissedOrDry S.reused) }
+    {
+        let at = tx.point();
+        let Some(rows) = self.others(tx)? else {
+            self.stay(at, cover);
+            return Ok(Polled::Unchanged);
+        };
+        Ok(self.tell(at, cover, Rows::new(tx.alloc(), rows)?)?)
+    }
+
     // Asks a reader. Where it is refused the watch is as it was.
     fn ask<S: Slots<M>>(&mut self, tx: &ReadTx<'_, M, S>) -> Result<Polled, Refusal>
         requires book { self.old.book ≡ (seen_by tx.now).book }
@@ -252,11 +297,12 @@ impl<M: Means> Watch<M> {
         if self.has_read(at) {
             return Ok(Polled::Unchanged);
         }
-        let Some(rows) = self.others(tx)? else {
-            self.stay(at);
+        let cover = tx.cover(&self.scan)?;
+        if self.has_covered(at, &cover) {
+            self.stay(at, cover);
             return Ok(Polled::Unchanged);
-        };
-        Ok(self.tell(at, Rows::new(tx.alloc(), rows)?)?)
+        }
+        self.compare(tx, cover)
     }
 }
 

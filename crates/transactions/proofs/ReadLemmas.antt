@@ -4,6 +4,8 @@ use Rattle.std.specs.Prelude.{IsSome}
 use mathlib.Core.List.{IsPrefix}
 use Rattle.group_history.specs.Spelling.{Contents, Version, version_at, map_at}
 use Rattle.commit_graph.proofs.Spelled.{version-grown, map-grown}
+use Rattle.map_chunks.specs.Shown.{chunk_rows}
+use Rattle.map_chunks.proofs.TreeLemmas.{MapOf, map_at-rows, map_is}
 use Rattle.transactions.specs.Reads.{version_or, read_version, IsRead}
 
 pub some_version : (o : Option Version) → IsSome o → o ≡ Some (version_or o)
@@ -44,3 +46,8 @@ pub read-is : (cs : Contents) (head root : ℕ) (v : Version) → version_at cs 
 read-is cs head root v is at =
     let same : read_version cs head ≡ v = ap version_or is in
     record { version = is ∙ ap Some (sym same); map = at ∙ ap (λ (w : Version). Some w.read) (sym same) }
+
+-- the rows of the root's chunk are the map
+pub read_rows : (cs : Contents) (head root : ℕ) → IsRead cs head root
+    → MapOf (chunk_rows cs root) (read_version cs head).read
+read_rows cs head root r = map_is (chunk_rows cs root) (read_version cs head).read (sym (map_at-rows cs root) ∙ r.map)

@@ -9,12 +9,15 @@ ghost use Rattle.std.specs.FinMap as finite;
 ghost use Rattle.group_history.specs.Refs.{stamp_of};
 ghost use Rattle.group_history.specs.Scans.{rows_of};
 ghost use Rattle.group_history.specs.Spelling.{Version, map_at, version_at};
+ghost use Rattle.map_chunks.specs.Covers.{Covers};
 ghost use Rattle.map_chunks.specs.Places.{Grows};
+ghost use Rattle.map_chunks.specs.Scanning.{scanned};
 ghost use Rattle.map_chunks.specs.Sinks.{HasMore, HasBegun};
 ghost use Rattle.group_history.specs.declared.mutators.Stop.TheVariants.{NoMemory};
 
 use commit_graph::{Nodes, closed_of, cookie_of, read_root, walk};
 use group_history::{Cookie, Json, Mutation, Ref, Scan, Stop, Text};
+use map_chunks::covers::{Cover, cover_placed};
 use map_tree::{TakesRows, Tree};
 use std::alloc::Global;
 use std::marker::Model;
@@ -133,6 +136,18 @@ impl<N: Nodes> ReadTx<N> {
         ensures stopped { IfErr result (λ stop. (stop ≡ NoMemory) ⊎ N.stops stop) }
     {
         Tree::at(self.root).scan_into(&mut self.nodes, scan, sink)
+    }
+
+    /// The few topmost chunks in which the rows lie that the scan asks for, its limit aside. Where they are the same at
+    /// another commit, so are these rows.
+    pub fn cover(&mut self, scan: &Scan) -> Result<Cover, Stop>
+        ensures cover { IfOk result (λ cover. Covers scan.now self.old.contents cover
+            (scanned scan.now (finite.entries self.old.version.read))) }
+        ensures same { self.new.version ≡ self.old.version }
+        ensures grown { IsPrefix self.old.contents self.new.contents }
+        ensures stopped { IfErr result (λ stop. (stop ≡ NoMemory) ⊎ N.stops stop) }
+    {
+        cover_placed(self.alloc, &mut self.nodes, self.root, scan)
     }
 
     /// Whether no key is there. Takes no memory.

@@ -7,7 +7,8 @@ use Rattle.commit_graph.proofs.Seating.{seat-self, seat-trans}
 use Rattle.group_steps.specs.Causes.{HasCause}
 use Rattle.group_steps.specs.Leaving.{Frees, spared}
 use Rattle.rebase.specs.Asking.{change_wanted, end_bytes_reply, is_passing}
-use Rattle.rebase.proofs.Causing.{cause_anew, frees_anew, frees_loads, frees_self, if_err_then, looked_looked, looked_self}
+use Rattle.rebase.proofs.Causing.{cause_anew, frees_anew, frees_loads, frees_self, if_err_then, looked_looked}
+use Rattle.rebase.proofs.Causing.{looked_self}
 use Rattle.rebase.proofs.Lasting.{begun_anew, left_alone, passing_changes, passing_read}
 use Rattle.rebase.proofs.client.Client.end_pull.Goals as goal
 

@@ -1,4 +1,4 @@
-use Rattle.std.proofs.Common.{ap, sym, ◌∙◌}
+use Rattle.std.proofs.Common.{ap, subst, sym, ◌∙◌}
 use Rattle.group_history.specs.Queries.{view_rows}
 use Rattle.group_history.specs.Record.{after}
 use Rattle.group_history.specs.Refs.{stamp_of}
@@ -6,6 +6,7 @@ use Rattle.group_history.specs.Spelling.{map_at}
 use Rattle.group_history.specs.State.{view_of}
 use Rattle.head_word.specs.Books.{drawn, record_of}
 use Rattle.head_word.specs.Marks.{Known}
+use Rattle.rebase.specs.Inside.Watching.{CoversMap, CoversView}
 use Rattle.rebase.specs.Watching.{Watched}
 use Rattle.rebase.proofs.watching.Watch.keep.Goals as goal
 
@@ -15,4 +16,8 @@ invariant_of-self g c =
       view_of means s,
       ap (λ (m : Known). map_at (drawn m.log) (stamp_of c.root.result)) c.mark.ensures ∙ c.root.ensures,
       c.requires.rows ∙ sym (ap (λ (w : Watched). view_rows means s w.scan) c.self.view_is),
+      subst (λ (m : Known). CoversMap (drawn m.log) c.self.inside.scan c.args.cover (view_of means s))
+          (sym c.mark.ensures)
+          (subst (λ (w : Watched). CoversView means c.args.at.now.log w.scan c.args.cover) (sym c.self.view_is)
+          c.requires.cover),
     )
