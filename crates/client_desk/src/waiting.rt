@@ -1,5 +1,5 @@
 //! Changes that wait for others, at a place of a group that has all mutators.
-ghost use Rattle.std.specs.Prelude.{◌≡◌, []};
+ghost use Rattle.std.specs.Prelude.{◌≡◌, [], None};
 ghost use Rattle.rebase.specs.declared.calls.Call.TheVariants as changing;
 ghost use Rattle.client_desk.specs.declared.faults.Fault.TheVariants as fault;
 ghost use Rattle.client_desk.specs.Answers.{At, ByClient};
@@ -46,8 +46,14 @@ impl<M: Mutators + Drop> Place<Whole<M>> {
         }
     }
 
-    /// Makes a call, of which a change waits for others. What it tells as bytes is written, none where it was refused.
-    pub fn call_waiting<R: Wait>(&mut self, rt: &R, call: Call<'_>, bytes: &mut Vec<u8>) -> Outcome
+    // The group has all mutators, so no change of the place asks for a run.
+    fn is_calm(&self)
+        ensures { self.now.asking ≡ None }
+    {
+        let _sitting = &self.sitting;
+    }
+
+    fn tell_waiting<R: Wait>(&mut self, rt: &R, call: Call<'_>, bytes: &mut Vec<u8>) -> Outcome
         requires { bytes.old.items ≡ [] }
         ensures { MayAnswerWaiting M.means call.entry self.old (told result bytes.new.items) self.new }
     {
@@ -56,5 +62,16 @@ impl<M: Mutators + Drop> Place<Whole<M>> {
             Call::End(number, body) => self.end_waiting(rt, number, body),
             other => self.call(other, bytes),
         }
+    }
+
+    /// Makes a call, of which a change waits for others. What it tells as bytes is written, none where it was refused.
+    /// The place stays at its group.
+    pub fn call_waiting<R: Wait>(&mut self, rt: &R, call: Call<'_>, bytes: &mut Vec<u8>) -> Outcome
+        requires { bytes.old.items ≡ [] }
+        ensures told { MayAnswerWaiting M.means call.entry self.old (told result bytes.new.items) self.new }
+        ensures group { self.new.group ≡ self.old.group }
+    {
+        self.is_calm();
+        self.tell_waiting(rt, call, bytes)
     }
 }

@@ -1,9 +1,8 @@
-use Rattle.std.proofs.Common.{sym, subst}
 use Rattle.client_desk.specs.Told.{told}
-use Rattle.client_desk.specs.Waiting.{MayAnswerWaiting}
+use Rattle.client_desk.proofs.Staying.{stays}
 use Rattle.client_desk.proofs.waiting.Place+Whole+M.call_waiting.Goals as goal
 
-pub returns-in-End : goal.returns-in-End
-returns-in-End g c =
-    subst (λ bytes. MayAnswerWaiting g.M.Means.means c.args.call c.args.self.now (told c.end_waiting.result bytes)
-    c.end_waiting.new.self) (sym c.requires) (rw c.in-End.is c.end_waiting.ensures)
+pub returns-clause-group : goal.returns-clause-group
+returns-clause-group g c =
+    stays g.M.Means.means c.args.self.now c.tell_waiting.new.self
+    (told c.tell_waiting.result c.tell_waiting.new.bytes.items) c.args.call c.is_calm.ensures c.tell_waiting.ensures

@@ -1,0 +1,143 @@
+-- A call of a place that asks for no run leaves it at its group.
+use Rattle.std.proofs.Common.{◌≡◌, ℕ, List, ap, inl, inr, ◌∙◌, refl, subst, true, Option, Some, None, Result, Ok, Err}
+use Rattle.group_history.specs.declared.refusals.Refusal.{Refusal}
+use Rattle.group_history.specs.Meaning.{Meanings}
+use Rattle.group_history.specs.State.{State}
+use Rattle.rebase.specs.Clients.{ClientState, Grouped}
+use Rattle.rebase.specs.Queries.{Asked as Begun}
+use Rattle.rebase.specs.Running.{UnderWay}
+use Rattle.rebase.specs.declared.tickets.Ticket.{Ticket}
+use Rattle.std.specs.Prelude.{IfSome}
+use Rattle.client_desk.specs.Runs.{IsAsking}
+use Rattle.client_desk.specs.declared.calls.Call.{Call}
+use Rattle.client_desk.specs.declared.calls.Call.TheVariants as call
+use Rattle.client_desk.specs.declared.calls.Keep.{Keep}
+use Rattle.client_desk.specs.declared.faults.Fault.{Fault}
+use Rattle.client_desk.specs.declared.faults.Fault.TheVariants as fault
+use Rattle.client_desk.specs.Answers.{At, Begins, ByClient, Forgets, IsBegun, Lacks, Leaves, Polls, Reads, Refreshes}
+use Rattle.client_desk.specs.Answers.{Rule, Sits, Watches, made_room}
+use Rattle.client_desk.specs.Calls.{AnswersCalm, MayAnswerAt}
+use Rattle.client_desk.specs.Places.{PlaceState}
+use Rattle.client_desk.specs.Kept.{kept_at}
+use Rattle.client_desk.specs.Told.{Told, bytes_told, cookie_told, is_told, pending_told, rows_told, value_told}
+use Rattle.group_history.specs.Queries.{get_at, has_at, is_empty_at, view_rows}
+use Rattle.push_body.specs.Bodies.{push_text}
+use Rattle.client_desk.specs.Waiting.{IsEndOf, MayAnswerWaiting, Waits}
+use Rattle.group_history.specs.declared.scans.Scan.{Scan}
+use Rattle.rebase.specs.Watching.{Watched}
+use Rattle.rebase.specs.declared.calls.Call.{Call as Changing}
+use Rattle.rebase.specs.declared.calls.Call.TheVariants as changing
+
+abbrev group_of : PlaceState → Grouped
+group_of p = p.group
+
+room_stays : (made : Call) (b : PlaceState) → (made_room made b).group ≡ b.group
+room_stays (call.Begin keep) b = refl
+room_stays (call.Watch keep scan) b = refl
+room_stays other b = refl
+
+module _ (means : Meanings) (b a : PlaceState) (t : Told) where
+  abbrev pub Stays : Type 0
+  Stays = a.group ≡ b.group
+
+  lacks_stays : (made : Call) → Lacks (made_room made b) t a → Stays
+  lacks_stays made l = elim l.left [
+    | inl same ↦ ap group_of same ∙ room_stays made b
+    | inr looked ↦ ap group_of looked.left ∙ room_stays made b
+  ]
+
+  at_stays : {X : Type 0} (x : Option X) (none : Fault) (rule : X → Rule) → ((y : X) → rule y b t a → Stays)
+      → At x none rule b t a → Stays
+  at_stays (Some y) none rule each h = each y h
+  at_stays None none rule each h = ap group_of h.1
+
+  by_stays : (rule : ClientState → Rule) → ((c : ClientState) → rule c b t a → Stays) → ByClient rule b t a → Stays
+  by_stays rule each h = at_stays b.client _ rule each h
+
+  reads_stays : {X : Type 0} (tell : X → Told) (right : State → X) (c : ClientState) → Reads tell right means c b t a
+      → Stays
+  reads_stays tell right c h = ap group_of h.2
+
+  asks_stays : {X : Type 0} (tell : X → Told) (right : State → X) → ByClient (Reads tell right means) b t a → Stays
+  asks_stays tell right h = by_stays (Reads tell right means) (λ c. reads_stays tell right c) h
+
+  calm_stays : (made : Call) → b.asking ≡ None → (AnswersCalm (λ name. true) means made b t a → Stays)
+      → MayAnswerAt (λ name. true) means made b.asking b t a → Stays
+  calm_stays made none each h =
+      elim (subst (λ x. MayAnswerAt (λ name. true) means made x b t a) none h) [
+        | inl dry ↦ lacks_stays made dry.1
+        | inr done ↦ each done
+      ]
+
+  sits_stays : (id : List ℕ) → Sits means id b t a → Stays
+  sits_stays id h =
+      at_stays b.seat _ _ (λ seat s. elim s [ inl sat ↦ ap group_of sat.left | inr away ↦ ap group_of away.left ]) h
+
+  begun_stays : (keep : Keep) (reply : Result Begun Refusal) (next : ClientState) (p : PlaceState) → p.group ≡ b.group
+      → IsBegun keep reply next p t a → Stays
+  begun_stays keep (Ok asked) next p same k = ap group_of k.left ∙ same
+  begun_stays keep (Err e) next p same k = ap group_of k.1 ∙ same
+
+  begins_stays : (keep : Keep) (c : ClientState) → Begins keep means c (made_room (call.Begin keep) b) t a → Stays
+  begins_stays keep c h = begun_stays keep h.reply h.next (made_room (call.Begin keep) b) refl h.begun
+
+  forgets_stays : (n : ℕ) (kept : Ticket) → Forgets n kept b t a → Stays
+  forgets_stays n kept f = ap group_of f.1
+
+  leaves_stays : (c : ClientState) → Leaves c b t a → Stays
+  leaves_stays c l = ap group_of l.left
+
+  refreshes_stays : (c : ClientState) → Refreshes means c b t a → Stays
+  refreshes_stays c r = ap group_of r.left
+
+  watches_stays : (keep : Keep) (scan : Scan) (p : PlaceState) (c : ClientState) → p.group ≡ b.group
+      → Watches keep scan c p t a → Stays
+  watches_stays keep scan p c same w = ap group_of w.left ∙ same
+
+  polls_stays : (n : ℕ) (c : ClientState) (watch : Watched) → Polls means c n watch b t a → Stays
+  polls_stays n c watch p = ap group_of p.left
+
+  waits_stays : (is : Changing → Type 0) (c : ClientState) → Waits means is c b t a → Stays
+  waits_stays is c w = ap group_of w.left
+
+  pub stays : (made : Call) → b.asking ≡ None → MayAnswerWaiting means made b t a → Stays
+  stays (call.Mutate m) none h = by_stays (Waits means (λ x. x ≡ changing.Mutate m)) (waits_stays _) h
+  stays (call.End n body) none h =
+      by_stays (λ c p. At (kept_at p.tickets n) fault.NoTicket (λ kept. Waits means (IsEndOf kept body.now) c) p)
+      (λ c. at_stays (kept_at b.tickets n) fault.NoTicket (λ kept. Waits means (IsEndOf kept body.now) c)
+      (λ kept. waits_stays (IsEndOf kept body.now) c)) h
+  stays (call.Sit id) none h = calm_stays (call.Sit id) none (sits_stays id.now) h
+  stays call.Leave none h = calm_stays call.Leave none (by_stays Leaves leaves_stays) h
+  stays call.Refresh none h =
+      calm_stays call.Refresh none (by_stays (Refreshes means) refreshes_stays) h
+  stays (call.Begin keep) none h =
+      calm_stays (call.Begin keep) none (by_stays (λ c p. Begins keep means c (made_room (call.Begin keep) p))
+      (λ c. begins_stays keep c)) h
+  stays (call.Forget n) none h =
+      calm_stays (call.Forget n) none (at_stays (kept_at b.tickets n) fault.NoTicket (Forgets n) (forgets_stays n)) h
+  stays (call.Watch keep scan) none h =
+      calm_stays (call.Watch keep scan) none
+      (by_stays (λ c p. Watches keep scan.now c (made_room (call.Watch keep scan) p)) (λ c. watches_stays keep scan.now (made_room (call.Watch keep scan) b) c refl)) h
+  stays (call.Poll n) none h =
+      calm_stays (call.Poll n) none (by_stays
+      (λ c p. At (kept_at p.watches n) fault.NoWatch (λ watch. Polls means c n watch) p)
+      (λ c. at_stays (kept_at b.watches n) fault.NoWatch (λ watch. Polls means c n watch) (polls_stays n c))) h
+  stays (call.Get key) none h = calm_stays (call.Get key) none (asks_stays value_told (λ s. get_at means s key.now)) h
+  stays (call.Has key) none h = calm_stays (call.Has key) none (asks_stays is_told (λ s. has_at means s key.now)) h
+  stays (call.Scan scan) none h =
+      calm_stays (call.Scan scan) none (asks_stays rows_told (λ s. view_rows means s scan.now)) h
+  stays call.Empty none h = calm_stays call.Empty none (asks_stays is_told (λ s. is_empty_at means s)) h
+  stays call.Pending none h = calm_stays call.Pending none (asks_stays pending_told (λ s. s.pending)) h
+  stays call.Cookie none h = calm_stays call.Cookie none (asks_stays cookie_told (λ s. s.cookie)) h
+  stays call.Closed none h = calm_stays call.Closed none (asks_stays is_told (λ s. s.closed)) h
+  stays call.Push none h =
+      calm_stays call.Push none (by_stays
+      (λ c. Reads bytes_told (λ s. push_text c.group.identity s.pending) means c)
+      (λ c. reads_stays bytes_told (λ s. push_text c.group.identity s.pending) c)) h
+  stays other none h = calm_stays other none (λ n. ap group_of n.1) h
+
+-- a group that has all mutators asks for no run
+pub none_asks : (means : Meanings) (group : Grouped) (asking : Option UnderWay)
+    → IfSome asking (IsAsking (λ name. true) means group) → asking ≡ None
+none_asks means group None is = refl
+none_asks means group (Some a) is = absurd (cc is.0)
