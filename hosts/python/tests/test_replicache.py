@@ -124,7 +124,7 @@ class Calls(WithServer):
         anna.mutate.once("x")
         begun = time.monotonic()
         anna.close()
-        self.assertLess(time.monotonic() - begun, 1.0)
+        self.assertLess(time.monotonic() - begun, 5.0)
         self.assertFalse([thread.name for thread in threads if thread.is_alive()])
         for future in [*waiting, anna.push()]:
             self.assertIsInstance(future.exception(1), Closed)
@@ -362,16 +362,19 @@ class Requests(WithServer):
         dripping = socket.create_server(("127.0.0.1", 0))
         self.addCleanup(dripping.close)
 
-        def drip() -> None:
+        def drip(connection: socket.socket) -> None:
+            with contextlib.suppress(OSError):
+                connection.recv(65536)
+                for byte in b"HTTP/1.1 200 OK\r\ncontent-length: 1000\r\n\r\n" + b" " * 1000:
+                    connection.send(bytes([byte]))
+                    time.sleep(0.05)
+
+        def serve() -> None:
             with contextlib.suppress(OSError):
                 while True:
-                    connection, _ = dripping.accept()
-                    connection.recv(65536)
-                    for byte in b"HTTP/1.1 200 OK\r\ncontent-length: 1000\r\n\r\n" + b" " * 1000:
-                        connection.send(bytes([byte]))
-                        time.sleep(0.05)
+                    threading.Thread(target=drip, args=[dripping.accept()[0]], daemon=True).start()
 
-        threading.Thread(target=drip, daemon=True).start()
+        threading.Thread(target=serve, daemon=True).start()
         url = f"http://127.0.0.1:{dripping.getsockname()[1]}/pull"
         anna = self.rep(pull_url=url, request_options=RequestOptions(60.0, 60.0, timeout=0.3))
         anna.pull(now=True)
@@ -388,7 +391,7 @@ class Requests(WithServer):
         begun = time.monotonic()
         with mock.patch.object(replicache, "JOIN", 0.2):
             anna.close()
-        self.assertLess(time.monotonic() - begun, 1.0)
+        self.assertLess(time.monotonic() - begun, 5.0)
         self.assertFalse([thread.name for thread in threads if thread.is_alive()])
 
     def test_losses(self) -> None:

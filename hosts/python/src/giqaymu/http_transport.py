@@ -57,7 +57,7 @@ class Http:
         try:
             got = answer.get(timeout=self._options.timeout)
         except queue.Empty:
-            got = Offline(f"{url}: no whole response in {self._options.timeout} seconds (RequestOptions.timeout)")
+            got = self._late(url)
         with self._lock:
             self._waiting.discard(answer)
         if isinstance(got, Exception):
@@ -78,10 +78,16 @@ class Http:
                 raise
             finally:
                 response.release_conn()
+        except urllib3.exceptions.ReadTimeoutError:
+            answer.put(self._late(url))
         except (urllib3.exceptions.HTTPError, OSError) as lost:
             answer.put(Offline(f"{url}: {lost}"))
         except Exception as error:
             answer.put(error)
+
+    def _late(self, url: str) -> Offline:
+        # A server that sends no byte meets the connection's end of a wait or the caller's, which end together.
+        return Offline(f"{url}: no whole response in {self._options.timeout} seconds (RequestOptions.timeout)")
 
     def close(self) -> None:
         """Ends all waits, and closes the connections that nobody uses."""
