@@ -11,8 +11,8 @@
 //! them use its words. Where slots are never used again `reused` is false, and these clauses say nothing.
 //!
 //! What always returns stands in [`Slots`], and what may wait over some stores in [`Store`].
-ghost use Rattle.std.specs.Prelude.{◌∷◌, ◌≡◌, ◌⊎◌, ℕ, ◌^◌, ◌<◌, ◌≤◌, IfOk, IfErr, IfSome, IfNone, MatchOption, MatchResult};
-ghost use Rattle.std.specs.Prelude.{length, map};
+ghost use Rattle.std.specs.Prelude.{◌∷◌, ◌≡◌, ◌⊎◌, ℕ, ◌^◌, ◌<◌, ◌≤◌, IfOk, IfErr, IfSome, IfNone, MatchOption};
+ghost use Rattle.std.specs.Prelude.{MatchResult, length, map};
 ghost use Rattle.std.specs.List.{All};
 ghost use Rattle.logbook.specs.Pages.{Book};
 ghost use Rattle.group_history.specs.Refs.{max_slots, max_seats};

@@ -25,9 +25,10 @@ use Rattle.commit_graph.specs.declared.chains.Base.{Base}
 use Rattle.commit_graph.specs.declared.chains.Link.{Link}
 use Rattle.commit_graph.specs.LastIds.{last_in, last_at}
 use Rattle.commit_graph.specs.Chains.{IsBaseOf}
-use Rattle.commit_graph.specs.Inside.Chains.{LiesAt, basis_of, basis_named, added_by, listed, link_of, link_named, top_of}
-use Rattle.commit_graph.specs.Inside.Chains.{snapshot_named, closes_group, closes, id_in, own_id, id_named, IsSnapshot}
-use Rattle.commit_graph.specs.Inside.Chains.{IsSnapshotAt, HasCookie, cookie_in, HasBase, base_in, snapshot_content, IsBase}
+use Rattle.commit_graph.specs.Inside.Chains.{LiesAt, basis_of, basis_named, added_by, listed, link_of, link_named}
+use Rattle.commit_graph.specs.Inside.Chains.{top_of, snapshot_named, closes_group, closes, id_in, own_id, id_named}
+use Rattle.commit_graph.specs.Inside.Chains.{IsSnapshot, IsSnapshotAt, HasCookie, cookie_in, HasBase, base_in}
+use Rattle.commit_graph.specs.Inside.Chains.{snapshot_content, IsBase}
 use Rattle.commit_graph.proofs.Spelled.{IsMade, commit-made, content-at, spelled_version, version-grown, map-grown}
 use Rattle.commit_graph.proofs.LastIds.{newest_id}
 

@@ -24,8 +24,8 @@ use Rattle.map_chunks.specs.Places.{AreAll}
 use Rattle.map_chunks.proofs.KeptLemmas.{IfAt}
 use Rattle.commit_graph.specs.Reach.{Reaches, itself, through}
 use Rattle.commit_graph.specs.Inside.Meeting.{or_this, choose, child_for, HasKey, LiesChunk}
-use Rattle.commit_graph.proofs.Spelled.{made_of, spelled_segment, option_map-some, sized-some, below_segment, segment-grown}
-use Rattle.commit_graph.proofs.Spelled.{chunk-at, inner-at, joined_there}
+use Rattle.commit_graph.proofs.Spelled.{made_of, spelled_segment, option_map-some, sized-some, below_segment}
+use Rattle.commit_graph.proofs.Spelled.{segment-grown, chunk-at, inner-at, joined_there}
 use Rattle.std.proofs.lemmas.Bool.{eq-eqb}
 use Rattle.commit_graph.proofs.Choosing.{chosen, part}
 use Rattle.commit_graph.proofs.Reached.{IsThere, there_segment, reaches_stays, reaches_back, child_there}

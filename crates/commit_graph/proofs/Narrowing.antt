@@ -23,8 +23,8 @@ use Rattle.commit_graph.specs.Inside.Meeting.{LiesChunk}
 use Rattle.commit_graph.specs.Inside.Reach.{ref_in, stamp_in, found_in}
 use Rattle.commit_graph.proofs.Spelled.{segment-grown}
 use Rattle.commit_graph.proofs.Descending.{map_ordered, reach_low}
-use Rattle.commit_graph.proofs.Reached.{there_segment, reaches_stays, reaches_back, reaches_child, found_stamps, found_refs}
-use Rattle.commit_graph.proofs.Reached.{child_there}
+use Rattle.commit_graph.proofs.Reached.{there_segment, reaches_stays, reaches_back, reaches_child, found_stamps}
+use Rattle.commit_graph.proofs.Reached.{found_refs, child_there}
 use Rattle.commit_graph.proofs.Rooted.{chunk_reaches, map_some_stays}
 
 -- the one that is told may be looked for where each may

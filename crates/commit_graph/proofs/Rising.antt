@@ -17,8 +17,8 @@ use Rattle.commit_graph.specs.declared.chains.Link.{Link}
 use Rattle.commit_graph.specs.Inside.Chains.{LiesAt, basis_of, basis_named, added_by, listed, link_named}
 use Rattle.commit_graph.specs.Inside.Handing.{AddUp, IsAdded, added_in}
 use Rattle.commit_graph.proofs.Spelled.{version-grown}
-use Rattle.commit_graph.proofs.Chained.{IsDescent, descent_begins, descent_step, descent_ends, reverse_listed, get_stays}
-use Rattle.commit_graph.proofs.Chained.{version_stays}
+use Rattle.commit_graph.proofs.Chained.{IsDescent, descent_begins, descent_step, descent_ends, reverse_listed}
+use Rattle.commit_graph.proofs.Chained.{get_stays, version_stays}
 
 -- what a commit adds does not hang on how its references are written
 added_renamed : (kind : CommitKind Ref) → added_in (renamed_kind stamp_of kind) ≡ added_in kind

@@ -26,7 +26,8 @@ use Rattle.commit_graph.specs.Inside.Chains.{LiesAt, IsShownAt, HasBase, base_in
 use Rattle.commit_graph.specs.Inside.Chains.{basis_of, link_named, link_of}
 use Rattle.commit_graph.specs.Reach.{Reaches, itself, through}
 use Rattle.commit_graph.specs.Inside.Meeting.{keys_in, IsFirst, HasKey, LiesChunk}
-use Rattle.commit_graph.proofs.Spelled.{made_of, spelled_segment, option_map-some, sized-some, chunk-at, inner-at, not_both}
+use Rattle.commit_graph.proofs.Spelled.{made_of, spelled_segment, option_map-some, sized-some, chunk-at, inner-at}
+use Rattle.commit_graph.proofs.Spelled.{not_both}
 use Rattle.commit_graph.proofs.Spelled.{segment-grown, map-grown, commit-made, commit-at, content-at, spelled_version}
 use Rattle.commit_graph.proofs.Choosing.{filled, first_part}
 use Rattle.commit_graph.proofs.Descending.{inner_parts, map_ordered}

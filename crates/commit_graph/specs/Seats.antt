@@ -1,4 +1,5 @@
--- What the clients of a group share, what a seat of a group has, and what a call leaves of it. This project's own words.
+-- What the clients of a group share, what a seat of a group has, and what a call leaves of it. This project's own
+-- words.
 use Rattle.std.specs.Prelude.{◌≡◌, ◌≤◌, Bool, true, false}
 use mathlib.Core.List.{IsPrefix}
 use Rattle.logbook.specs.Pages.{Book}
@@ -47,8 +48,8 @@ pub record IsSameSeat (old new : Seated) : Type 0 where
   pub table : new.table ≡ old.table
   pub later : IsLater old.mark new.mark
 
--- It did nothing to slots and to the epoch: it took, settled, withdrew and retired none, and raised nothing. What it has
--- read of the epoch does not fall.
+-- It did nothing to slots and to the epoch: it took, settled, withdrew and retired none, and raised nothing. What it
+-- has read of the epoch does not fall.
 pub record IsCalm (v u : View) : Type 0 where
   pub deeds : u.deeds ≡ v.deeds
   pub taken : u.taken ≡ v.taken

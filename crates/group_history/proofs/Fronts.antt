@@ -1,6 +1,6 @@
 -- Texts are ordered as the numbers of their first bytes are.
-use Rattle.std.proofs.Common.{◌≡◌, ◌≢◌, ◌<◌, ◌≤◌, ◌+◌, ◌*◌, ℕ, zero, suc, [], ◌∷◌, length, get_or, take, drop}
-use Rattle.std.proofs.Common.{refl, sym, ap, ◌∙◌, subst, arith, Ordering, Less, Equal, Greater, nat_cmp, true, true≢false}
+use Rattle.std.proofs.Common.{◌≡◌, ◌≢◌, ◌<◌, ◌≤◌, ◌+◌, ◌*◌, ℕ, zero, suc, [], ◌∷◌, length, get_or, take, drop, refl}
+use Rattle.std.proofs.Common.{sym, ap, ◌∙◌, subst, arith, Ordering, Less, Equal, Greater, nat_cmp, true, true≢false}
 use Rattle.std.specs.Prelude.{replicate}
 use Rattle.std.specs.Int.{w128, from_be_bytes}
 use Rattle.std.specs.Ordering.{MatchOrdering, ordering_then, is_ne}

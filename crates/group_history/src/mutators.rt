@@ -119,7 +119,8 @@ pub trait WriteView {
         ensures ran { IfOk result (λ ran. (u : Updates) × F.post change (finite.get (contents self.old) key.now) (Ok u)
             × UpdatesAs u key.now (contents self.old) ran (contents self.new)) }
         ensures err { OnErr result (contents self.new ≡ contents self.old) }
-        ensures stopped { IfErr result (λ e. stops e ⊎ F.post change (finite.get (contents self.old) key.now) (Err e)) };
+        ensures stopped { IfErr result (λ e. stops e
+            ⊎ F.post change (finite.get (contents self.old) key.now) (Err e)) };
 }
 
 /// What an application's mutators mean. What runs none of them asks for this alone.

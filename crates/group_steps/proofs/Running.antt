@@ -1,5 +1,6 @@
 -- Runs that a change asks for, and what they leave.
-use Rattle.std.proofs.Common.{◌≡◌, ◌⊎◌, inl, inr, ℕ, Bool, true, false, List, [], ◌∷◌, ◌++◌, Option, Some, IsSome, Result, Ok, Err, refl, reverse, sym, ap, subst, ◌∙◌}
+use Rattle.std.proofs.Common.{◌≡◌, ◌⊎◌, inl, inr, ℕ, Bool, true, false, List, [], ◌∷◌, ◌++◌, Option, Some, IsSome}
+use Rattle.std.proofs.Common.{Result, Ok, Err, refl, reverse, sym, ap, subst, ◌∙◌}
 use Rattle.map_chunks.specs.Drafts.{AreNeeded}
 use Rattle.std.proofs.Common.{append-nil, append_assoc, length}
 use Rattle.group_history.proofs.Replays.{replayed-append}
@@ -37,8 +38,8 @@ use Rattle.replays.proofs.RunLemmas.{Refuses-is, reply-refused}
 use Rattle.group_steps.specs.Proposing.{asked_reply, change_asked, kind_left}
 use Rattle.group_steps.proofs.Drafting.{refused_for, told_unproposed}
 use Rattle.group_steps.proofs.Making.{reply_next}
-use Rattle.group_steps.specs.Runs.{HasMap, IsBehind, IsFirst, IsNext, IsOn, IsOnLeft, IsRunOf, Leads, NeedsNoRun, drafted}
-use Rattle.group_steps.specs.Runs.{map_by, run_map, run_start}
+use Rattle.group_steps.specs.Runs.{HasMap, IsBehind, IsFirst, IsNext, IsOn, IsOnLeft, IsRunOf, Leads, NeedsNoRun}
+use Rattle.group_steps.specs.Runs.{drafted, map_by, run_map, run_start}
 use Rattle.group_steps.specs.declared.runs.Chain.{Chain}
 use Rattle.group_steps.specs.declared.runs.Step.{Step}
 use Rattle.group_steps.specs.declared.runs.Step.TheVariants as step

@@ -1,6 +1,6 @@
 -- What the tries of a call come to, since it began.
-use Rattle.std.proofs.Common.{◌≡◌, inr, ℕ, ◌+◌, ◌≤◌, ◌-◌, Bool, true, false, List, Option, Some, None, Result, Ok, Err, filter, length}
-use Rattle.std.proofs.Common.{refl, sym, ap, subst, ◌∙◌, arith}
+use Rattle.std.proofs.Common.{◌≡◌, inr, ℕ, ◌+◌, ◌≤◌, ◌-◌, Bool, true, false, List, Option, Some, None, Result, Ok, Err}
+use Rattle.std.proofs.Common.{filter, length, refl, sym, ap, subst, ◌∙◌, arith}
 use Rattle.std.specs.Prelude.{IfOk, IfErr}
 use mathlib.Core.List.{IsPrefix}
 use Rattle.group_history.specs.declared.changes.Change.{Change}
@@ -35,8 +35,8 @@ use Rattle.group_steps.specs.Missing.{IsStop, map_ok}
 use Rattle.group_steps.specs.Proposing.{HasLast, IsUnmade, asked_reply, change_asked, closing_reply}
 use Rattle.group_steps.specs.declared.trying.Tried.{Tried}
 use Rattle.group_steps.specs.declared.trying.Tried.TheVariants as tried
-use Rattle.group_steps.proofs.Giving.{after_tries, cause_arrived, cause_other, frees_as, frees_since, frees_then, gives_calm, gives_none}
-use Rattle.group_steps.proofs.Giving.{may_before, may_here}
+use Rattle.group_steps.proofs.Giving.{after_tries, cause_arrived, cause_other, frees_as, frees_since, frees_then}
+use Rattle.group_steps.proofs.Giving.{gives_calm, gives_none, may_before, may_here}
 use Rattle.group_steps.proofs.Making.{wanting}
 use Rattle.group_steps.proofs.Answering.{try_answered}
 use Rattle.group_steps.specs.Runs.{IsBehind, IsFirst}

@@ -37,8 +37,8 @@ abbrev pub Lacks : Meanings → ℕ → Option Change → Seated → Seated → 
 Lacks means last None old new = ⊥
 Lacks means last (Some c) old new = LacksSlots means last c old new
 
--- The refusal has its cause: Full a pass, where slots are used again, and else that so many stamps are drawn as there are
--- slot numbers; Busy other seats; and Stamps a change that was to be drafted where all stamps but 2^32 are drawn.
+-- The refusal has its cause: Full a pass, where slots are used again, and else that so many stamps are drawn as there
+-- are slot numbers; Busy other seats; and Stamps a change that was to be drafted where all stamps but 2^32 are drawn.
 pub record HasCause (means : Meanings) (reused : Type 0) (last : ℕ) (asked : Option Change) (old new : Seated)
     (e : Refusal) : Type 0 where
   pub full : reused → e ≡ refusal.Full → Lacks means last asked old new

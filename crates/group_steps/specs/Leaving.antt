@@ -1,5 +1,6 @@
 -- What a change of the head leaves behind.
-use Rattle.std.specs.Prelude.{ℕ, ◌≡◌, ◌+◌, ◌≤◌, ◌↔◌, ◌++◌, List, [], ◌∷◌, map, length, Option, Some, None, Result, Ok, Err}
+use Rattle.std.specs.Prelude.{ℕ, ◌≡◌, ◌+◌, ◌≤◌, ◌↔◌, ◌++◌, List, [], ◌∷◌, map, length, Option, Some, None, Result, Ok}
+use Rattle.std.specs.Prelude.{Err}
 use Rattle.std.specs.List.{All, Contains}
 use mathlib.Core.List.{IsPrefix}
 use Rattle.group_history.specs.declared.changes.Change.{Change}
@@ -34,15 +35,15 @@ AreLeft cs old new (Pulled ticket r) left =
 AreLeft cs old new (Mutated m) left = left ≡ []
 AreLeft cs old new Closed left = left ≡ []
 
--- A draft may take slots below this end: below that of the kind that what is asked for may take at a state which the call
--- came to see. What asks for no change takes none.
+-- A draft may take slots below this end: below that of the kind that what is asked for may take at a state which the
+-- call came to see. What asks for no change takes none.
 abbrev pub MayTake : Sizes → Option Change → Known → Known → ℕ → Type 0
 MayTake sizes None old new end = ⊥
 MayTake sizes (Some c) old new end = (log : List Entry) × IsPrefix old.log log × IsPrefix log new.log
     × (end ≡ kind_end sizes (kind_for (after (record_of log)) c))
 
--- The seat gave these drafts up, which may take slots below such ends, and did nothing else to slots and to the epoch, of
--- which it knows no less.
+-- The seat gave these drafts up, which may take slots below such ends, and did nothing else to slots and to the epoch,
+-- of which it knows no less.
 pub record GivesBack (may : ℕ → Type 0) (given : List GivenUp) (old new : Seated) (ys : List Deed) : Type 0 where
   pub ends : All (λ g. may g.end) given
   pub gave : GivesUp old.table.sizes.slots new.view.reached old.mark.seat given old.view.deeds ys
@@ -57,9 +58,9 @@ pub record FreesNone (may : ℕ → Type 0) (count : ℕ) (old new : Seated) : T
   pub own : own new.mark ≡ own old.mark ++ entries_of given
 
 -- The change was made from `base`, by a move of the seat to `to`: at `base` the head was when so much of the book had
--- been seen. First the seat gave up drafts, so many at most; then it placed the draft of which `to` is one, and from which
--- the others are reached, in slots of the kind that the change may take at the state of `base`, and let go what the change
--- leaves behind. To the book it added what drew stamps, the move, and nothing else.
+-- been seen. First the seat gave up drafts, so many at most; then it placed the draft of which `to` is one, and from
+-- which the others are reached, in slots of the kind that the change may take at the state of `base`, and let go what
+-- the change leaves behind. To the book it added what drew stamps, the move, and nothing else.
 pub record FreesFor (may : ℕ → Type 0) (count : ℕ) (old new : Seated) (change : Change) : Type 0 where
   pub base : Ref
   pub to : Ref

@@ -1,5 +1,6 @@
 -- A run that a change asks for, and what is drafted before it.
-use Rattle.std.specs.Prelude.{ℕ, ◌≡◌, ◌+◌, ◌<◌, ◌≤◌, Bool, true, false, List, [], ◌∷◌, ◌++◌, length, reverse, Some, None, IsSome}
+use Rattle.std.specs.Prelude.{ℕ, ◌≡◌, ◌+◌, ◌<◌, ◌≤◌, Bool, true, false, List, [], ◌∷◌, ◌++◌, length, reverse, Some}
+use Rattle.std.specs.Prelude.{None, IsSome}
 use Rattle.std.specs.List.{All}
 use Rattle.group_history.specs.declared.changes.Change.{Change}
 use Rattle.group_history.specs.declared.changes.Change.TheVariants.{Mutated, Pulled, Closed}
@@ -88,8 +89,8 @@ pub record IsNew (means : Meanings) (cs : Contents) (s : State) (last : ℕ) (x 
 abbrev pub left_of : AskedRun → List Mutation
 left_of run = run.mutation ∷ reverse run.behind.items
 
--- So far as the change is judged before the run: a mutation is the next one, and is accepted where its own run, from the
--- map of the state, is done; a pull is accepted.
+-- So far as the change is judged before the run: a mutation is the next one, and is accepted where its own run, from
+-- the map of the state, is done; a pull is accepted.
 abbrev pub IsJudged : Meanings → Contents → State → ℕ → Change → AskedRun → Type 0
 IsJudged means cs s last (Mutated x) run = (run.mutation ≡ x) × (run.behind.items ≡ []) × IsNext s last x
     × IsTip means (drafted cs run.chain) run.chain.tip s × (run_start cs run ≡ view_of means s)

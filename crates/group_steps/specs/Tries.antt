@@ -1,5 +1,6 @@
 -- What the tries of a change left, since its call began, and how the call ends.
-use Rattle.std.specs.Prelude.{ℕ, Bool, ◌≡◌, ◌⊎◌, ◌+◌, ◌<◌, ◌≤◌, List, [], Option, Some, None, Result, Ok, Err, IfErr, max}
+use Rattle.std.specs.Prelude.{ℕ, Bool, ◌≡◌, ◌⊎◌, ◌+◌, ◌<◌, ◌≤◌, List, [], Option, Some, None, Result, Ok, Err, IfErr}
+use Rattle.std.specs.Prelude.{max}
 use mathlib.Core.List.{IsPrefix}
 use Rattle.group_history.specs.declared.changes.Change.{Change}
 use Rattle.group_history.specs.declared.changes.Change.TheVariants.{Mutated, Pulled, Closed}
@@ -36,8 +37,8 @@ use Rattle.group_steps.specs.declared.trying.Turn.TheVariants as turn
 use Rattle.group_steps.specs.declared.trying.Progress.{Progress}
 use Rattle.group_steps.specs.declared.trying.Progress.TheVariants as progress
 
--- Since `before` the seat lost so many tries of the change to others, and did no more: it moved no head, and gave up one
--- draft at most for each.
+-- Since `before` the seat lost so many tries of the change to others, and did no more: it moved no head, and gave up
+-- one draft at most for each.
 pub record IsSince (reused : Type 0) (before : Seated) (lost : ℕ) (change : Change) (seat : Seated) : Type 0 where
   pub same : IsSameSeat before seat
   pub own : own_moves seat.mark ≡ own_moves before.mark
@@ -68,8 +69,8 @@ turn_of (Ok tried.Same) = turn.Ended (Ok None)
 turn_of (Ok tried.Lost) = turn.Lost
 turn_of (Err e) = turn.Ended (Err e)
 
--- The call arrived at the base when so much of the book had been seen: by what the seat has seen since, it is a commit of
--- the state there.
+-- The call arrived at the base when so much of the book had been seen: by what the seat has seen since, it is a commit
+-- of the state there.
 pub record StandsOn (means : Meanings) (seat : Seated) (seen : List Entry) (base : Ref) : Type 0 where
   pub since : IsPrefix seen seat.mark.log
   pub spelled : IsBase means seat.mark base (after (record_of seen))
@@ -99,8 +100,8 @@ TellsTurn means reused tries before lost new last change (turn.Ended made) = IsE
     change made
 TellsTurn means reused tries before lost new last change turn.Lost = IsSince reused before (lost + 1) change new
 
--- The change is under way at a seat of this group: its pin is held, the call arrived, and the run is one that the change
--- asks for at the state there.
+-- The change is under way at a seat of this group: its pin is held, the call arrived, and the run is one that the
+-- change asks for at the state there.
 pub record IsAttempt (means : Meanings) (reused : Type 0) (group : GroupId) (seat : Seated) (last : ℕ) (change : Change)
     {M : Type 0} (attempt : Attempt M) : Type 0 where
   pub reading : IsReading reused group seat

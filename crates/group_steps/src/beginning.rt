@@ -38,8 +38,8 @@ use replays::{
 };
 use std::marker::Brand;
 
-// The commit at which a client's last id is found, which a mutation has to follow: the one where the call stands, unless
-// it is another id there.
+// The commit at which a client's last id is found, which a mutation has to follow: the one where the call stands,
+// unless it is another id there.
 fn catch_up<M: Means, S: Slots<M>>(
     at: &At<'_, M, S>,
     change: &Change,
@@ -278,7 +278,8 @@ fn begin_rebase<'a, M: Runs, S: Slots<M>>(
     requires spot { IsSpot M.means at.now spot.tip spot.first }
     requires before { IsBaseOf (drawn at.now.mark.log) (state_at at.now) before.now }
     requires applied { end_at (state_at at.now) ticket.now.text pull.now ≡ Ok ended.Applied }
-    ensures step { (last : ℕ) → IfOk result (MayStep M.has M.means (drawn at.now.mark.log) at.now.commit (state_at at.now) last
+    ensures step { (last : ℕ) → IfOk result
+        (MayStep M.has M.means (drawn at.now.mark.log) at.now.commit (state_at at.now) last
         (changed.Pulled ticket.now pull.now)) }
     ensures err { IfErr result (IsStop S.reused) }
     ensures first { IfOk result (IsFirst M.has (state_at at.now) (changed.Pulled ticket.now pull.now)) }
@@ -303,9 +304,11 @@ fn begin_outcome<M: Runs, S: Slots<M>>(
 ) -> Result<Step, Refusal>
     requires spot { IsSpot M.means at.now spot.tip spot.first }
     requires before { IsBaseOf (drawn at.now.mark.log) (state_at at.now) before.now }
-    ensures step { (last : ℕ) → IfOk result (MayStep M.has M.means (drawn at.now.mark.log) at.now.commit (state_at at.now) last
+    ensures step { (last : ℕ) → IfOk result
+        (MayStep M.has M.means (drawn at.now.mark.log) at.now.commit (state_at at.now) last
         (changed.Pulled ticket.now pull.now)) }
-    ensures err { (last : ℕ) → IfErr result (IsUnproposed (IsStop S.reused) (change_asked (changed.Pulled ticket.now pull.now))
+    ensures err { (last : ℕ) → IfErr result
+        (IsUnproposed (IsStop S.reused) (change_asked (changed.Pulled ticket.now pull.now))
         (asked_reply M.means (state_at at.now) last (changed.Pulled ticket.now pull.now))) }
     ensures first { IfOk result (IsFirst M.has (state_at at.now) (changed.Pulled ticket.now pull.now)) }
     ensures late { IfErr result (λ e. e ≡ refusal.Stamps → IsLate spot.first) }
@@ -331,9 +334,11 @@ fn begin_pull<'a, M: Runs, S: Slots<M>>(
     pull: &PullOk,
 ) -> Result<Step, Refusal>
     requires spot { IsSpot M.means at.now spot.tip spot.first }
-    ensures step { (last : ℕ) → IfOk result (MayStep M.has M.means (drawn at.now.mark.log) at.now.commit (state_at at.now) last
+    ensures step { (last : ℕ) → IfOk result
+        (MayStep M.has M.means (drawn at.now.mark.log) at.now.commit (state_at at.now) last
         (changed.Pulled ticket.now pull.now)) }
-    ensures err { (last : ℕ) → IfErr result (IsUnproposed (IsStop S.reused) (change_asked (changed.Pulled ticket.now pull.now))
+    ensures err { (last : ℕ) → IfErr result
+        (IsUnproposed (IsStop S.reused) (change_asked (changed.Pulled ticket.now pull.now))
         (asked_reply M.means (state_at at.now) last (changed.Pulled ticket.now pull.now))) }
     ensures first { IfOk result (IsFirst M.has (state_at at.now) (changed.Pulled ticket.now pull.now)) }
     ensures late { IfErr result (λ e. e ≡ refusal.Stamps → IsLate spot.first) }
@@ -345,7 +350,8 @@ fn begin_pull<'a, M: Runs, S: Slots<M>>(
 // The closing of an open group asks for no run.
 fn begin_closing<M: Runs, S: Slots<M>>(at: &At<'_, M, S>, spot: Spot) -> Result<Step, Refusal>
     requires spot { IsSpot M.means at.now spot.tip spot.first }
-    ensures step { (last : ℕ) → IfOk result (MayStep M.has M.means (drawn at.now.mark.log) at.now.commit (state_at at.now) last
+    ensures step { (last : ℕ) → IfOk result
+        (MayStep M.has M.means (drawn at.now.mark.log) at.now.commit (state_at at.now) last
         changed.Closed) }
     ensures err { (last : ℕ) → IfErr result (IsUnproposed (IsStop S.reused) (change_asked changed.Closed)
         (asked_reply M.means (state_at at.now) last changed.Closed)) }
@@ -417,8 +423,8 @@ fn begin_request<'a, M: Runs, S: Slots<M>>(
     begin_open(at, Spot { tip, first }, request)
 }
 
-/// What the change asks for first, drafted under stamps from `first` on. Where its client's last id was found by the way
-/// stays known, also where the change is refused.
+/// What the change asks for first, drafted under stamps from `first` on. Where its client's last id was found by the
+/// way stays known, also where the change is refused.
 pub(crate) fn begin<M: Runs, S: Slots<M>>(
     at: &At<'_, M, S>,
     first: u64,

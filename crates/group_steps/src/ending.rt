@@ -75,7 +75,8 @@ pub(crate) fn finish<'a, M: Runs, S: Slots<M>>(
 ) -> Result<Step, Refusal>
     requires behind { chain.draft.first ≡ length (drawn at.now.mark.log) }
     requires tip { (s : State) × IsTip M.means (drafted (drawn at.now.mark.log) chain) chain.tip s × (s.closed ≡ false)
-        × (tree_map (drafted (drawn at.now.mark.log) chain) tree ≡ Some (replayed M.means (view_of M.means s) ran.items)) }
+        × (tree_map (drafted (drawn at.now.mark.log) chain) tree
+        ≡ Some (replayed M.means (view_of M.means s) ran.items)) }
     ensures step { (last : ℕ) (ticket : Cookied) (r : Pull) (map : Entries)
         → IsAccepted M.means (state_at at.now) (changed.Pulled ticket r)
         → Leads M.means (drawn at.now.mark.log) (after_pull (state_at at.now) r) chain ran.items [] map → HasNew chain
@@ -146,7 +147,8 @@ fn run_next<M: Runs, S: Slots<M>>(
 ) -> Result<Went, Refusal>
     requires behind { replaying.chain.draft.first ≡ length (drawn at.now.mark.log) }
     requires map { IsSome (tree_map (drafted (drawn at.now.mark.log) replaying.chain) replaying.tree) }
-    ensures went { (map : Entries) → tree_map (drafted (drawn at.now.mark.log) replaying.chain) replaying.tree ≡ Some map
+    ensures went { (map : Entries)
+        → tree_map (drafted (drawn at.now.mark.log) replaying.chain) replaying.tree ≡ Some map
         → IfOk result (HasGone M.has M.means (drawn at.now.mark.log) replaying mutation map) }
     ensures err { IfErr result (IsMissedOrDry S.reused) }
 {
@@ -181,8 +183,8 @@ fn run_next<M: Runs, S: Slots<M>>(
     }
 }
 
-/// Goes on with a pull: the group runs the mutations of which it has the mutators, up to the first that it has not, which
-/// is asked for. Where none is left, the pull is drafted whole.
+/// Goes on with a pull: the group runs the mutations of which it has the mutators, up to the first that it has not,
+/// which is asked for. Where none is left, the pull is drafted whole.
 pub(crate) fn go_on<M: Runs, S: Slots<M>>(
     at: &At<'_, M, S>,
     replaying: Replaying,
@@ -197,7 +199,8 @@ pub(crate) fn go_on<M: Runs, S: Slots<M>>(
         → tree_map (drafted (drawn at.now.mark.log) replaying.chain) replaying.tree ≡ Some map
         → IfOk result (MayStep M.has M.means (drawn at.now.mark.log) at.now.commit (state_at at.now) last
         (changed.Pulled ticket r)) }
-    ensures next { (map : Entries) → tree_map (drafted (drawn at.now.mark.log) replaying.chain) replaying.tree ≡ Some map
+    ensures next { (map : Entries)
+        → tree_map (drafted (drawn at.now.mark.log) replaying.chain) replaying.tree ≡ Some map
         → IfOk result (IsOn M.has M.means (drawn at.now.mark.log) (reverse replaying.behind.items) map) }
     ensures err { IfErr result (IsStop S.reused) }
     ensures late { IfErr result (λ e. e ≡ refusal.Stamps → IsLate replaying.chain.draft.first) }

@@ -12,17 +12,18 @@
 //! Not proved: that the slot which a pull lets go for a node is the one where the node lies (the book names stamps, not
 //! slots); that the draft for which no slot was found has no more chunks than its map needs.
 //!
-//! A change is told once (`trying.rt`): it is begun at the head (`beginning.rt`), a run is asked for where the group hasn't
-//! the mutator, goes on when the caller says how the run ended (`ending.rt`), and ends by a move of the head. Between the
-//! steps the seat's pin is held, so that what a run reads stays placed. What is known then is `IsAttempt`: the change was
-//! judged at the state where the head was looked at, and what is drafted with the runs that are left leads to the state
-//! after it. That the caller runs the mutators which the group's meanings speak of is the one premise (`IsRunOf`). Where
-//! the head was moved first, each run is asked for anew.
+//! A change is told once (`trying.rt`): it is begun at the head (`beginning.rt`), a run is asked for where the group
+//! hasn't the mutator, goes on when the caller says how the run ended (`ending.rt`), and ends by a move of the head.
+//! Between the steps the seat's pin is held, so that what a run reads stays placed. What is known then is `IsAttempt`:
+//! the change was judged at the state where the head was looked at, and what is drafted with the runs that are left
+//! leads to the state after it. That the caller runs the mutators which the group's meanings speak of is the one
+//! premise (`IsRunOf`). Where the head was moved first, each run is asked for anew.
 //!
-//! What is tried again is one function over the change, and no trait that each change meets: a method of a trait's block
-//! may not call a function at a bound that threads may share. What a pull leaves behind is listed before the exchange,
-//! since nothing may be refused after it. These steps are generic in the store and dear to check, so they stand in a crate
-//! of their own; wrong bodies stand in `rebase`, where a user reads the clause, and here only those of its own functions.
+//! What is tried again is one function over the change, and no trait that each change meets: a method of a trait's
+//! block may not call a function at a bound that threads may share. What a pull leaves behind is listed before the
+//! exchange, since nothing may be refused after it. These steps are generic in the store and dear to check, so they
+//! stand in a crate of their own; wrong bodies stand in `rebase`, where a user reads the clause, and here only those of
+//! its own functions.
 #![tactic(auto)]
 
 mod beginning;

@@ -39,7 +39,8 @@ fn left_behind<M: Means, S: Store<M>>(
     requires reading { IsReading S.reused shared.now seat.now }
     requires old { (s : State) × IsBase M.means seat.now.mark to.now.base s }
     requires new { (s : State) × IsBase M.means seat.now.mark to.now.new s }
-    ensures exact { IfOk result (λ left. AreLeft (drawn seat.now.mark.log) to.now.base to.now.new to.now.change.now left.items) }
+    ensures exact { IfOk result (λ left. AreLeft (drawn seat.now.mark.log) to.now.base to.now.new
+        to.now.change.now left.items) }
     ensures err { IfErr result (IsMissedOrDry S.reused) }
 {
     match to.change {
@@ -75,7 +76,8 @@ fn exchange<M: Means, S: Store<M>>(
     ensures goes { IfOk result (λ published. published ≡ Won
         → IsMove seat.old.mark seat.new.mark to.now.base to.now.new to.now.change.now) }
     ensures freed { S.reused → IfOk result (λ published. FreesWhatIsLeft shared.now.table.sizes.slots
-        (drawn seat.old.mark.log) to.now.base to.now.new to.now.change.now to.now.refs.now seat.old.view seat.new.view published) }
+        (drawn seat.old.mark.log) to.now.base to.now.new to.now.change.now to.now.refs.now seat.old.view
+        seat.new.view published) }
     ensures given { S.reused → OnErr result (AreFreed shared.now.table.sizes.slots seat.new.view.reached
         (map slot_of to.now.refs.now) seat.old.view.deeds seat.new.view.deeds) }
     ensures err { IfErr result (λ e. IsMissedOrDry S.reused e × (seat.new.mark ≡ seat.old.mark)) }

@@ -1,8 +1,8 @@
 //! The tries of a change.
 //!
 //! Each try pins the seat anew, looks where the head is, drafts the change at the state there, and moves the head from
-//! there. Where the group hasn't a mutator, the try stops and asks for its run; a group that has all makes a change in one
-//! call (`make_change`).
+//! there. Where the group hasn't a mutator, the try stops and asks for its run; a group that has all makes a change in
+//! one call (`make_change`).
 //!
 //! What a call has done since it began is said of any seat `before` from which its tries were counted (`IsSince`): so
 //! what was known when the call began need not be kept while the caller runs the mutators.
@@ -22,9 +22,9 @@ ghost use Rattle.group_steps.specs.Missing.{IsStop, map_ok};
 ghost use Rattle.group_steps.specs.Proposing.{HasLast, IsUnmade, MayAsk, MayPropose, StaysFound, asked_reply};
 ghost use Rattle.group_steps.specs.Proposing.{change_asked};
 ghost use Rattle.group_steps.specs.Runs.{IsAskedRun, IsRunOf, MayStep};
-ghost use Rattle.group_steps.specs.Tries.{BeginsFirst, Follows, GoesBehind, IsPassed, NeedsNone, StartsAnew, StartsIfAny};
-ghost use Rattle.group_steps.specs.Tries.{IsArrivedSince, IsAttempt, IsGoing, IsProgress, IsSince, IsTurn, StandsOn};
-ghost use Rattle.group_steps.specs.Tries.{TellsGoing, TellsProgress, TellsTurn, turn_of};
+ghost use Rattle.group_steps.specs.Tries.{BeginsFirst, Follows, GoesBehind, IsPassed, NeedsNone, StartsAnew};
+ghost use Rattle.group_steps.specs.Tries.{StartsIfAny, IsArrivedSince, IsAttempt, IsGoing, IsProgress, IsSince, IsTurn};
+ghost use Rattle.group_steps.specs.Tries.{StandsOn, TellsGoing, TellsProgress, TellsTurn, turn_of};
 
 use crate::beginning::begin;
 use crate::ending::end_run;
@@ -115,7 +115,8 @@ fn move_there<M: Means, S: Store<M>>(
     ensures tried { IfOk result (EndsTry M.means seat.old.mark seat.new.mark arrival.now.base
         (after (record_of arrival.now.seen.log)) request.now.before.id request.now.change.now) }
     ensures err { IfErr result (IsUnmade (IsStop S.reused) (change_asked request.now.change.now)
-        (asked_reply M.means (after (record_of arrival.now.seen.log)) request.now.before.id request.now.change.now) tries
+        (asked_reply M.means (after (record_of arrival.now.seen.log)) request.now.before.id request.now.change.now)
+        tries
         seat.old.mark seat.new.mark) }
     ensures cause { IfErr result (HasCauseAt M.means S.reused (after (record_of arrival.now.seen.log))
         request.now.before.id request.now.change.now seat.old seat.new) }
@@ -153,7 +154,8 @@ fn make_there<M: Means, S: Store<M>>(
     ensures tried { IfOk result (EndsTry M.means seat.old.mark seat.new.mark arrival.now.base
         (after (record_of arrival.now.seen.log)) request.now.before.id request.now.change.now) }
     ensures err { IfErr result (IsUnmade (IsStop S.reused) (change_asked request.now.change.now)
-        (asked_reply M.means (after (record_of arrival.now.seen.log)) request.now.before.id request.now.change.now) tries
+        (asked_reply M.means (after (record_of arrival.now.seen.log)) request.now.before.id request.now.change.now)
+        tries
         seat.old.mark seat.new.mark) }
     ensures cause { IfErr result (HasCauseAt M.means S.reused (after (record_of arrival.now.seen.log))
         request.now.before.id request.now.change.now seat.old seat.new) }
@@ -411,9 +413,9 @@ pub fn ran_from<M: Runs, S: Store<M>>(
     }
 }
 
-/// Makes a change that a client asks for, of a group that has all mutators, and answers the commit where it stands: none
-/// where there is nothing to change. It is tried anew where others moved the head first, `tries` times and once at least.
-/// Where its client's last id was found by the way stays known, also where the change is refused.
+/// Makes a change that a client asks for, of a group that has all mutators, and answers the commit where it stands:
+/// none where there is nothing to change. It is tried anew where others moved the head first, `tries` times and once at
+/// least. Where its client's last id was found by the way stays known, also where the change is refused.
 pub fn make_change<M: Mutators, S: Store<M>>(
     group: &SharedGroup<M, S>,
     seat: &mut Seat<M, S>,

@@ -34,7 +34,8 @@ impl<M: Hosted> Model for Desk<M> {
 
     ghost Value = { DeskState };
 
-    ghost coded = { Prim.hlevel (codes, entry.the_row.coded, the_change.the_row.coded, the_mutation.the_row.coded, entries_coded) };
+    ghost coded = { Prim.hlevel
+        (codes, entry.the_row.coded, the_change.the_row.coded, the_mutation.the_row.coded, entries_coded) };
 
     ghost view = { λ d. record { place = d.place; bytes = d.bytes.items; start = vec_ptr d.bytes } };
 }

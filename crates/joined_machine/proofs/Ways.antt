@@ -1,9 +1,8 @@
 -- Ways of the machine, event by event, from an opening in which the slot 0 alone is reached. The words of a table are
 -- told by their places.
-use Rattle.std.proofs.Common.{◌≡◌, ◌≢◌, ℕ, ◌+◌, ◌-◌, ◌<◌, ◌≤◌, Bool, true, false, cond, ◌==◌, List, [], ◌∷◌, ◌++◌, length}
-use Rattle.std.proofs.Common.{get_or, set, refl}
-use Rattle.std.proofs.Common.{sym, ap, ◌∙◌, subst, inl, ⊎_elim, arith, length-set, get_or-set_same}
-use Rattle.std.proofs.Common.{get_or-set_other, eq-eqb, ne_eqb}
+use Rattle.std.proofs.Common.{◌≡◌, ◌≢◌, ℕ, ◌+◌, ◌-◌, ◌<◌, ◌≤◌, Bool, true, false, cond, ◌==◌, List, [], ◌∷◌, ◌++◌}
+use Rattle.std.proofs.Common.{length, get_or, set, refl, sym, ap, ◌∙◌, subst, inl, ⊎_elim, arith, length-set}
+use Rattle.std.proofs.Common.{get_or-set_same, get_or-set_other, eq-eqb, ne_eqb}
 use mathlib.Core.Logic.{dite}
 use native.Mathlib.Decide.{ℕ_discrete, dec_lt}
 use Rattle.group_history.specs.declared.changes.Change.{Change}
@@ -258,7 +257,8 @@ module _ (k : Sizes) (start : World) (dealer : View) (views : List View) (works 
   retired {f} {log} {reached} z room zero live h0 =
       let w1 : View = with_epoch (v3 k) 0 in let w2 : View = with_raise w1 1 in
       let w4 : View = with_pin (v4 k z) Absent in let pin : ℕ = after (raised f) (slot_at z) 5 8 in
-      let epoch : after (raised f) (slot_at z) 5 0 ≡ 1 = ap (λ b. cond b 5 1) (ne_eqb 0 (slot_at z) (λ e. omega arith)) in
+      let epoch : after (raised f) (slot_at z) 5 0 ≡ 1 =
+      ap (λ b. cond b 5 1) (ne_eqb 0 (slot_at z) (λ e. omega arith)) in
       let b : Work = record { commits = seen; try = ended (without z (z ∷ [])) true } in
       let h1 : My (after f 0 0) w1 log reached (left (z ∷ []) true) = first_on h0 0 0 0 w1 (omega arith) zero
       (table.load_epoch 0) tt in

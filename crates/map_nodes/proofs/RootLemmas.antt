@@ -1,7 +1,7 @@
 -- A new root above both halves of a map.
 use Rattle.std.proofs.Common.{◌≡◌, ◌<◌, ◌≤◌, ◌+◌, ◌-◌, ◌^◌, ◌&&◌, ℕ, Bool, true, false, cond, T, List, [], ◌∷◌, ◌++◌}
-use Rattle.std.proofs.Common.{Option, Some, None}
-use Rattle.std.proofs.Common.{get_or, length, replicate, append-nil, refl, sym, ap, ◌∙◌, subst, arith, nat_cmp, Less, is_lt}
+use Rattle.std.proofs.Common.{Option, Some, None, get_or, length, replicate, append-nil, refl, sym, ap, ◌∙◌, subst}
+use Rattle.std.proofs.Common.{arith, nat_cmp, Less, is_lt}
 use Rattle.std.specs.Cmp.Lexicographic.{slice_cmp}
 use Rattle.std.specs.FinMap.{put}
 use Rattle.group_history.specs.Map.{Bytes}

@@ -65,7 +65,8 @@ can_step q r may copies as_trail key at below kids i u (Grown n half) l w t g pr
     let d = h.3.0 in
     fits_over q r may copies (d + 1) i key h.0 at below kids n.value half
     (over q key at below kids i d w t g place b h.3.1) pre few (omega (arith, h.3.2, big))
-    (made_below r may (copies + 1) (stamp_of below) d (rows_or (chunk_rows q (stamp_of below))) key h.0 n.value half h.3.3)
+    (made_below r may (copies + 1) (stamp_of below) d (rows_or (chunk_rows q (stamp_of below))) key h.0 n.value half
+    h.3.3)
 
 -- what the way ends in, told of the chunk above
 pub reached_up : (q r : Contents) (may : Ref → Type 0) (copies : ℕ) (as_trail : Bool)

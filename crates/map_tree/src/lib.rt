@@ -22,8 +22,8 @@
 //!
 //! A put and an `update` go down once. Each placed chunk on the way is held while the way goes on below it, and new
 //! ones are made on the way up, only where the value changes; the tree's own chunks are changed in place. What a split
-//! of these needs is taken on the way down, above a chunk that is full: where its key is there already, or a chunk below
-//! it has room, in vain.
+//! of these needs is taken on the way down, above a chunk that is full: where its key is there already, or a chunk
+//! below it has room, in vain.
 //!
 //! Not proved: that no fewer chunks would do, and that a put on chunks of the tree's own copies none. The first change
 //! after a first put that split no chunk copies what that put made new; those after it copy none of the tree's own. A

@@ -77,7 +77,8 @@ gives_up_known slots reached later by (g ∷ gs) xs zs low (ys, one, rest) = (
 -- and then more of them
 pub gives_up_more : (slots reached : ℕ) (by : Option ℕ) (gs hs : List GivenUp) (xs ys zs : List Deed)
     → GivesUp slots reached by gs xs ys → GivesUp slots reached by hs ys zs → GivesUp slots reached by (gs ++ hs) xs zs
-gives_up_more slots reached by [] hs xs ys zs same b = subst (λ (l : List Deed). GivesUp slots reached by hs l zs) same b
+gives_up_more slots reached by [] hs xs ys zs same b =
+    subst (λ (l : List Deed). GivesUp slots reached by hs l zs) same b
 gives_up_more slots reached by (g ∷ gs) hs xs ys zs (mid, one, rest) b =
     (mid, one, gives_up_more slots reached by gs hs mid ys zs rest b)
 
@@ -100,7 +101,8 @@ pub gives_placed : (slots end count : ℕ) (xs : List Deed) (v : View) (old new 
     → (settled withdrawn : List ℕ) × (v.taken ≡ settled ++ withdrawn)
     × AreFreed slots new.view.reached settled (drafted settled withdrawn xs) new.view.deeds
     → GivesOneUp slots end count xs old new
-gives_placed slots end count xs v old new held first contents has below all each drew (settled, withdrawn, split, freed) =
+gives_placed slots end count xs v old new held first contents has below all each drew
+    (settled, withdrawn, split, freed) =
     let many = length_taken v held has in let whole = ap length split in record {
       given = record {
         end = end;

@@ -23,7 +23,8 @@ all_and_last : {A : Type 0} (P : A → Type 0) (xs : List A) (x : A) → All P x
 all_and_last P [] x all one zero d low = one
 all_and_last P [] x all one (suc k) d low = absurd (omega (arith, low))
 all_and_last P (y ∷ xs) x all one zero d low = all zero d (omega arith)
-all_and_last P (y ∷ xs) x all one (suc k) d low = all_and_last P xs x (λ j e l. all (suc j) e (omega (arith, l))) one k d
+all_and_last P (y ∷ xs) x all one (suc k) d low =
+    all_and_last P xs x (λ j e l. all (suc j) e (omega (arith, l))) one k d
     (omega (arith, low))
 
 -- no slot is below any end

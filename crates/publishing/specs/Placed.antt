@@ -29,7 +29,8 @@ pub record IsPlaced (before after : Contents) (draft : Drafted) (refs : List Ref
   pub since : IsPrefix before earlier
   pub until : IsPrefix (earlier ++ drawn_as draft.first first draft.nodes) after
 
--- The references bear the stamps that the seat drew for one draft, in order, by the one entry that it added to the book.
+-- The references bear the stamps that the seat drew for one draft, in order, by the one entry that it added to the
+-- book.
 pub record AreDrawnBy (old new : Known) (refs : List Ref) : Type 0 where
   pub first : ℕ
   pub contents : List (Node Child)
@@ -41,9 +42,9 @@ pub record AreDrawnBy (old new : Known) (refs : List Ref) : Type 0 where
 abbrev pub LieBelow : ℕ → List Ref → Type 0
 LieBelow end refs = All (λ at. slot_of at < end) refs
 
--- A pass over the slots below end found none for a draft of so many nodes, and nothing was looked for since: from v to u
--- the epoch was loaded, and since it was loaded last each pin was read, and each of the slots found shut. Those that were
--- the seat's own then are fewer than the nodes: they were taken last, and withdrawn.
+-- A pass over the slots below end found none for a draft of so many nodes, and nothing was looked for since: from v to
+-- u the epoch was loaded, and since it was loaded last each pin was read, and each of the slots found shut. Those that
+-- were the seat's own then are fewer than the nodes: they were taken last, and withdrawn.
 pub record FoundNone (v u : View) (end count : ℕ) : Type 0 where
   pub loads : v.epoch_loads < u.epoch_loads
   pub epoch : u.loaded ≡ u.reached

@@ -1,5 +1,5 @@
--- What a draft does to slots, by all that its seat did: what it had done before is xs, and what it has done behind it ys,
--- the newest first.
+-- What a draft does to slots, by all that its seat did: what it had done before is xs, and what it has done behind it
+-- ys, the newest first.
 use Rattle.std.specs.Prelude.{ℕ, ◌≡◌, ◌<◌, ◌≤◌, ◌⊎◌, ◌^◌, length, List, [], ◌∷◌, ◌++◌, map, reverse, Option}
 use Rattle.std.specs.List.{All, flat_map}
 use Rattle.group_history.specs.declared.nodes.Child.{Child}
@@ -20,8 +20,8 @@ abbrev pub drafted : List ℕ → List ℕ → List Deed → List Deed
 drafted settled withdrawn xs = map deed.withdrew (reverse withdrawn)
     ++ (map deed.settled (reverse settled) ++ (map deed.took (settled ++ withdrawn) ++ xs))
 
--- Of a table with so many slots, these slots were let go at r, one after the other: each was retired, or found not live.
--- One that the table does not have was left alone.
+-- Of a table with so many slots, these slots were let go at r, one after the other: each was retired, or found not
+-- live. One that the table does not have was left alone.
 abbrev pub AreLetGo : ℕ → ℕ → List ℕ → List Deed → List Deed → Type 0
 AreLetGo slots r [] xs ys = ys ≡ xs
 AreLetGo slots r (i ∷ is) xs ys = ((i < slots) × AreLetGo slots r is (deed.retired i r ∷ xs) ys)
@@ -67,8 +67,8 @@ GivesUp slots reached by (g ∷ gs) xs zs = (ys : List Deed) × IsGivenUp slots 
 abbrev pub entries_of : List GivenUp → List Entry
 entries_of gs = flat_map (λ g. g.entries) gs
 
--- A draft of so many nodes was given up, since xs was done, and since `old` was seen of the book: no more slots below the
--- end were taken for it than it has nodes.
+-- A draft of so many nodes was given up, since xs was done, and since `old` was seen of the book: no more slots below
+-- the end were taken for it than it has nodes.
 pub record GivesOneUp (slots end count : ℕ) (xs : List Deed) (old new : Seated) : Type 0 where
   pub given : GivenUp
   pub ends : given.end ≡ end

@@ -1,6 +1,6 @@
 //! A draft's nodes in their slots.
-ghost use Rattle.std.specs.Prelude.{ℕ, ◌≡◌, ◌⊎◌, ◌+◌, ◌<◌, ◌≤◌, ◌++◌, ◌∷◌, List, [], map, max, reverse, true, IfOk, IfErr};
-ghost use Rattle.std.specs.Prelude.{OnOk, OnErr, length};
+ghost use Rattle.std.specs.Prelude.{ℕ, ◌≡◌, ◌⊎◌, ◌+◌, ◌<◌, ◌≤◌, ◌++◌, ◌∷◌, List, [], map, max, reverse, true, IfOk};
+ghost use Rattle.std.specs.Prelude.{IfErr, OnOk, OnErr, length};
 ghost use Rattle.group_history.specs.Refs.{max_slots, stamp_of, slot_of, stamps};
 ghost use Rattle.group_history.specs.declared.refs.Ref.{Ref as Reference};
 ghost use Rattle.group_history.specs.declared.refusals.Refusal.TheVariants as refusal;
@@ -95,7 +95,8 @@ fn place_next<M: Means, S: Store<M>>(
     ensures less { length slots.old.items ≡ length slots.new.items + 1 }
     ensures placed { OnOk result (AddsOne (to.now.first + length refs.old.items) refs.old.items refs.new.items) }
     ensures same { OnErr result (refs.new.items ≡ refs.old.items) }
-    ensures used { S.reused → OnOk result (UsesMore (S.view seat.old) refs.old.items (S.view seat.new) refs.new.items []) }
+    ensures used { S.reused → OnOk result
+        (UsesMore (S.view seat.old) refs.old.items (S.view seat.new) refs.new.items []) }
     ensures back { S.reused → OnErr result ((back : List ℕ)
         × UsesMore (S.view seat.old) refs.old.items (S.view seat.new) refs.new.items back) }
     ensures within { S.reused → StayBelow slots.old.items refs.old.items slots.new.items refs.new.items }
@@ -261,7 +262,8 @@ fn place_taken<M: Means, S: Store<M>>(
         → IfOk result (λ refs. seat.new.view.deeds ≡ drafted (map slot_of refs.items) [] xs) }
     ensures within { S.reused → (end : ℕ) → AreBelow end slots.items
         → IfOk result (λ refs. LieBelow end refs.items) }
-    ensures given { S.reused → (xs : List Deed) (end : ℕ) → seat.old.view.deeds ≡ map deed.took seat.old.view.taken ++ xs
+    ensures given { S.reused → (xs : List Deed) (end : ℕ)
+        → seat.old.view.deeds ≡ map deed.took seat.old.view.taken ++ xs
         → AreBelow end slots.items → OnErr result (GivesOneUp shared.now.table.sizes.slots end (length draft.nodes) xs
         seat.old seat.new) }
     ensures steps { S.reused → Steps seat.old.view seat.new.view }

@@ -32,7 +32,8 @@ pub(crate) fn retire_all<M: Means, S: Slots<M>>(store: &S, seat: &mut S::Seat, r
     ensures home { S.home seat.new ≡ S.serves store.now }
     ensures none { S.reused → (S.view seat.new).taken ≡ [] }
     ensures steps { S.reused → Steps (S.view seat.old) (S.view seat.new) }
-    ensures freed { S.reused → AreFreed (S.serves store.now).sizes.slots (S.view seat.new).reached (map slot_of refs.now)
+    ensures freed { S.reused → AreFreed (S.serves store.now).sizes.slots (S.view seat.new).reached
+        (map slot_of refs.now)
         (S.view seat.old).deeds (S.view seat.new).deeds }
 {
     if refs.is_empty() {

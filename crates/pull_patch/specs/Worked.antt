@@ -19,14 +19,18 @@ pulled text n changes patch = Ok (response.Ok
 
 pub record WorkedBodies : Type 0 where
   pub first_pull :
-      ReadsAs (codes "{\"cookie\":1,\"lastMutationIDChanges\":{},\"patch\":[{\"op\":\"put\",\"key\":\"n\",\"value\":5}]}")
+      ReadsAs
+      (codes "{\"cookie\":1,\"lastMutationIDChanges\":{},\"patch\":[{\"op\":\"put\",\"key\":\"n\",\"value\":5}]}")
       (pulled (codes "1") 1 [] (Put (codes "n") (codes "5") ∷ []))
   -- the shape goes before whole numbers
   pub shape_first : ReadsAs (codes "{\"cookie\":1.5,\"lastMutationIDChanges\":{}}") (Err BadShape)
   pub put_not_whole :
-      ReadsAs (codes "{\"cookie\":1,\"lastMutationIDChanges\":{},\"patch\":[{\"op\":\"put\",\"key\":\"n\",\"value\":1.5}]}") (Err NotWhole)
+      ReadsAs
+      (codes "{\"cookie\":1,\"lastMutationIDChanges\":{},\"patch\":[{\"op\":\"put\",\"key\":\"n\",\"value\":1.5}]}")
+      (Err NotWhole)
   -- a field `error` makes an error response, whatever its value
-  pub null_error : ReadsAs (codes "{\"error\":null,\"cookie\":1,\"lastMutationIDChanges\":{},\"patch\":[]}") (Err BadShape)
+  pub null_error : ReadsAs (codes "{\"error\":null,\"cookie\":1,\"lastMutationIDChanges\":{},\"patch\":[]}")
+      (Err BadShape)
   pub unknown_kind : ReadsAs (codes "{\"error\":\"VersionNotSupported\",\"versionType\":\"PUSH\"}")
       (Ok (response.VersionNotSupported kind.Unknown))
   -- of two fields of one name the last counts
@@ -39,14 +43,18 @@ pub record WorkedBodies : Type 0 where
   pub greatest_id :
       ReadsAs (codes "{\"cookie\":2,\"lastMutationIDChanges\":{\"a\":4503599627370496},\"patch\":[]}")
       (pulled (codes "2") 2 (record { client = codes "a"; id = 4503599627370496 } ∷ []) [])
-  pub id_too_great : ReadsAs (codes "{\"cookie\":2,\"lastMutationIDChanges\":{\"a\":4503599627370497},\"patch\":[]}") (Err BadShape)
+  pub id_too_great : ReadsAs (codes "{\"cookie\":2,\"lastMutationIDChanges\":{\"a\":4503599627370497},\"patch\":[]}")
+      (Err BadShape)
   -- an object is compared by its `order`, and its other fields are part of it
   pub object_cookie :
       ReadsAs (codes "{\"cookie\":{\"order\":2,\"by\":4},\"lastMutationIDChanges\":{},\"patch\":[]}")
       (pulled (codes "{\"by\":4,\"order\":2}") 2 [] [])
   -- a put needs a value
-  pub put_without_value : ReadsAs (codes "{\"cookie\":2,\"lastMutationIDChanges\":{},\"patch\":[{\"op\":\"put\",\"key\":\"n\"}]}") (Err BadShape)
+  pub put_without_value : ReadsAs
+      (codes "{\"cookie\":2,\"lastMutationIDChanges\":{},\"patch\":[{\"op\":\"put\",\"key\":\"n\"}]}") (Err BadShape)
   -- operations in order
   pub del_and_clear :
-      ReadsAs (codes "{\"cookie\":2,\"lastMutationIDChanges\":{},\"patch\":[{\"op\":\"del\",\"key\":\"n\"},{\"op\":\"clear\"}]}")
+      ReadsAs
+      (codes
+      "{\"cookie\":2,\"lastMutationIDChanges\":{},\"patch\":[{\"op\":\"del\",\"key\":\"n\"},{\"op\":\"clear\"}]}")
       (pulled (codes "2") 2 [] (Del (codes "n") ∷ Clear ∷ []))

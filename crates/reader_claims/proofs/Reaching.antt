@@ -23,8 +23,8 @@ use Rattle.reader_claims.specs.Views.{with_settled, with_withdrawn, with_retired
 use Rattle.reader_claims.specs.Views.{with_given, sought}
 use Rattle.reader_claims.specs.Machine as machine
 use Rattle.reader_claims.specs.Machine.{Move, Reached, Lawful, left_by}
-use Rattle.reader_claims.specs.Inside.Plays.{Sat, dealt_left, dealt_right, Goes, loaded, stored, cleared, read, raised, looked}
-use Rattle.reader_claims.specs.Inside.Plays.{took, settled, withdrawn, retired, gave}
+use Rattle.reader_claims.specs.Inside.Plays.{Sat, dealt_left, dealt_right, Goes, loaded, stored, cleared, read, raised}
+use Rattle.reader_claims.specs.Inside.Plays.{looked, took, settled, withdrawn, retired, gave}
 use Rattle.reader_claims.proofs.Sound.{Sound}
 use Rattle.reader_claims.proofs.Keeps.{St, turned, unturned, own_pin, none_noted, promoted_word, promoted_held, deals}
 use Rattle.reader_claims.proofs.Slotted.{moved, unmoved, ends_at, not_taken, quiet_holds}
@@ -306,7 +306,8 @@ module _ (k : Sizes) where
   unsought (suc x) e = absurd (cc e)
 
   -- a slot that is taken by the seat's own number is its own
-  its_own : (s : St) (o : Sound k (state s.words s.views)) (id : ℕ) (v : View) → get_elem? s.views id ≡ some v → (i i' : ℕ)
+  its_own : (s : St) (o : Sound k (state s.words s.views)) (id : ℕ) (v : View)
+      → get_elem? s.views id ≡ some v → (i i' : ℕ)
       → i ≡ i' → i < v.sizes.slots → get_or s.words (slot_at i) 0 ≡ slot_word (Taken v.number) → In v.taken i'
   its_own s o id v me i i' same room is =
       let t = o.slots.taker i v.number (roomy s.words s.views o id v me i room) is in

@@ -1,6 +1,6 @@
 -- What a pass over the slots knows.
-use Rattle.std.proofs.Common.{◌≡◌, ℕ, zero, suc, ◌+◌, ◌≤◌, ◌≢◌, List, [], ◌∷◌, ◌++◌, refl, sym, ap, ap₂, ◌∙◌, subst, arith}
-use Rattle.std.proofs.Common.{append_assoc, map, inr}
+use Rattle.std.proofs.Common.{◌≡◌, ℕ, zero, suc, ◌+◌, ◌≤◌, ◌≢◌, List, [], ◌∷◌, ◌++◌, refl, sym, ap, ap₂, ◌∙◌, subst}
+use Rattle.std.proofs.Common.{arith, append_assoc, map, inr}
 use Rattle.std.proofs.lemmas.List.{map-append}
 use Rattle.reader_claims.specs.Deeds as deed
 use Rattle.reader_claims.specs.Deeds.{Deed}
@@ -105,7 +105,8 @@ later_look v u i w is = later_note v u i (sought w) w is
 -- a look that found the slot not free
 pub found_by_look : (v u : View) (i w : ℕ) → u ≡ with_look v i w → (w ≡ slot_word (Taken v.number) → In v.taken i)
     → w ≢ 0 → HasFound v i w u
-found_by_look v u i w is own h = (v, later_self v, refl, is ∙ ap (λ (old : ℕ). with_note v i old w) (sought_free w h), own)
+found_by_look v u i w is own h =
+    (v, later_self v, refl, is ∙ ap (λ (old : ℕ). with_note v i old w) (sought_free w h), own)
 
 -- a take after a look
 pub found_by_take : (v m u : View) (i seen w : ℕ) → m ≡ with_look v i seen → u ≡ with_note m i 0 w
@@ -182,12 +183,14 @@ later_tried w i v u won miss = dite (ℕ_discrete w 0) (λ e. later_taken v u i 
     (λ ne. later_note v u i 0 w (miss ne))
 
 -- a give, won or lost
-pub later_offered : (w old i r : ℕ) (v u : View) → (w ≡ old → u ≡ with_given v i r) → (w ≢ old → u ≡ with_note v i old w)
+pub later_offered : (w old i r : ℕ) (v u : View) → (w ≡ old → u ≡ with_given v i r)
+    → (w ≢ old → u ≡ with_note v i old w)
     → Later v u
 later_offered w old i r v u won miss = dite (ℕ_discrete w old) (λ e. later_given v u i r (won e))
     (λ ne. later_note v u i old w (miss ne))
 
-pub taken_offered : (w old i r : ℕ) (v u : View) → (w ≡ old → u ≡ with_given v i r) → (w ≢ old → u ≡ with_note v i old w)
+pub taken_offered : (w old i r : ℕ) (v u : View) → (w ≡ old → u ≡ with_given v i r)
+    → (w ≢ old → u ≡ with_note v i old w)
     → u.taken ≡ v.taken
 taken_offered w old i r v u won miss = dite (ℕ_discrete w old) (λ e. ap (λ (y : View). y.taken) (won e))
     (λ ne. ap (λ (y : View). y.taken) (miss ne))

@@ -99,7 +99,8 @@ abbrev pub IsNotGiven : View → View → ℕ → Type 0
 IsNotGiven v u i = (u ≡ passed v u) ⊎ ((r x : ℕ) × (x ≢ slot_word (Retired r))
     × (u ≡ with_note (passed v u) i (slot_word (Retired r)) x))
 
--- the seat took these slots, the last one first, and did nothing else to slots or the epoch, but that it may have given some
+-- the seat took these slots, the last one first, and did nothing else to slots or the epoch, but that it may have given
+-- some
 abbrev pub OnlyTakes : View → View → List ℕ → Type 0
 OnlyTakes v u slots = (u.taken ≡ slots ++ v.taken) × (u.deeds ≡ map deed.took slots ++ v.deeds)
 

@@ -99,8 +99,8 @@ impl Words {
         least
     }
 
-    // Takes the slot if a look finds it free, since a look disturbs no other seat. The word found, by the look or by the
-    // take.
+    // Takes the slot if a look finds it free, since a look disturbs no other seat. The word found, by the look or by
+    // the take.
     fn take_if_free(&self, reader: &mut Reader, slot: u32) -> u64
         requires { (reader_id reader.old ≡ words_id self.now) × (slot < self.now.sizes.slots) }
         ensures table { reader_id reader.new ≡ reader_id reader.old }
@@ -127,7 +127,8 @@ impl Words {
         ensures later { Later (view reader.old) (view reader.new) }
         ensures taken { result ≡ true → Takes (view reader.old) (view reader.new) slot }
         ensures shut { result ≡ false
-            → ((view reader.new).taken ≡ (view reader.old).taken) × WhyShut (view reader.new).taken slot (view reader.new) }
+            → ((view reader.new).taken ≡ (view reader.old).taken)
+            × WhyShut (view reader.new).taken slot (view reader.new) }
     {
         let found = self.take_if_free(reader, slot);
         if found == FREE {
@@ -306,8 +307,8 @@ impl Words {
         }
     }
 
-    // Takes the first slot that a plain load finds free or open, and stops at the first that is retired and not known as
-    // open.
+    // Takes the first slot that a plain load finds free or open, and stops at the first that is retired and not known
+    // as open.
     fn quick(&self, reader: &mut Reader, from: u32, end: u32) -> Look
         requires { (reader_id reader.old ≡ words_id self.now) × (end ≤ self.now.sizes.slots) }
         ensures table { reader_id reader.new ≡ reader_id reader.old }

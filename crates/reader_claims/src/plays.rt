@@ -1,8 +1,8 @@
 // The rule of the table, and what each kind of step tells.
 ghost use Rattle.reader_claims.specs.Views.{dealer};
 ghost use Rattle.reader_claims.specs.Machine.{Lawful};
-ghost use Rattle.reader_claims.specs.Inside.Plays.{dealt_left, dealt_right, loaded, stored, cleared, read, raised, looked};
-ghost use Rattle.reader_claims.specs.Inside.Plays.{took, gave, settled, withdrawn, retired};
+ghost use Rattle.reader_claims.specs.Inside.Plays.{dealt_left, dealt_right, loaded, stored, cleared, read, raised};
+ghost use Rattle.reader_claims.specs.Inside.Plays.{looked, took, gave, settled, withdrawn, retired};
 
 use crate::view::{Sizes, View};
 use atomic_table::{Play, Split, TableRule};

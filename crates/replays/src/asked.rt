@@ -134,7 +134,8 @@ impl RunMap {
         requires map { IsSome (tree_map K.known self.old.tree) }
         requires places { AreAll (C.places chunks) (tree_places self.old.tree) }
         ensures map { IsSome (tree_map K.known self.new.tree) }
-        ensures ok { OnOk result (map_now K.known self.new ≡ finite.insert (map_now K.known self.old) key.entry.text.now value.now) }
+        ensures ok { OnOk result (map_now K.known self.new
+            ≡ finite.insert (map_now K.known self.old) key.entry.text.now value.now) }
         ensures left { OnErr result (self.new.tree ≡ self.old.tree) }
         ensures then { map_then K.known self.new ≡ map_then K.known self.old }
         ensures err { IfErr result (λ e. (e ≡ NoMemory) ⊎ StopsAs C.stops e) }
@@ -155,7 +156,8 @@ impl RunMap {
         requires map { IsSome (tree_map K.known self.old.tree) }
         requires places { AreAll (C.places chunks) (tree_places self.old.tree) }
         ensures map { IsSome (tree_map K.known self.new.tree) }
-        ensures ok { OnOk result (map_now K.known self.new ≡ finite.remove (map_now K.known self.old) key.entry.text.now) }
+        ensures ok { OnOk result (map_now K.known self.new
+            ≡ finite.remove (map_now K.known self.old) key.entry.text.now) }
         ensures left { OnErr result (self.new.tree ≡ self.old.tree) }
         ensures then { map_then K.known self.new ≡ map_then K.known self.old }
         ensures err { IfErr result (λ e. (e ≡ NoMemory) ⊎ StopsAs C.stops e) }
@@ -199,7 +201,8 @@ impl RunMap {
         requires places { (at : Reference) → C.places chunks at }
         requires behind { draft.now.first ≡ length K.known }
         requires map { IsSome (tree_map (with_nodes K.known draft.now.nodes) self.now.tree) }
-        ensures value { IfOk result (λ found. found ≡ finite.get (map_now (with_nodes K.known draft.now.nodes) self.now) key.entry.text.now) }
+        ensures value { IfOk result (λ found. found
+            ≡ finite.get (map_now (with_nodes K.known draft.now.nodes) self.now) key.entry.text.now) }
         ensures err { IfErr result (λ e. (e ≡ NoMemory) ⊎ StopsAs C.stops e) }
     {
         let staged = Staged::<'a, C, K>::new(chunks, draft);
@@ -218,7 +221,8 @@ impl RunMap {
         requires places { (at : Reference) → C.places chunks at }
         requires behind { draft.now.first ≡ length K.known }
         requires map { IsSome (tree_map (with_nodes K.known draft.now.nodes) self.now.tree) }
-        ensures value { IfOk result (λ rows. rows.items ≡ rows_of scan.now (map_now (with_nodes K.known draft.now.nodes) self.now)) }
+        ensures value { IfOk result (λ rows. rows.items
+            ≡ rows_of scan.now (map_now (with_nodes K.known draft.now.nodes) self.now)) }
         ensures err { IfErr result (λ e. (e ≡ NoMemory) ⊎ StopsAs C.stops e) }
     {
         let staged = Staged::<'a, C, K>::new(chunks, draft);

@@ -1,6 +1,6 @@
 //! Mutations that are replayed: the map that they leave, and a commit for each.
-ghost use Rattle.std.specs.Prelude.{Bool, ◌≡◌, ◌≢◌, ◌⊎◌, ◌<◌, ◌≤◌, [], ◌∷◌, false, length, Some, Ok, Err, IfOk, IfErr, IfSome};
-ghost use Rattle.std.specs.Prelude.{◌++◌, OnOk};
+ghost use Rattle.std.specs.Prelude.{Bool, ◌≡◌, ◌≢◌, ◌⊎◌, ◌<◌, ◌≤◌, [], ◌∷◌, false, length, Some, Ok, Err, IfOk, IfErr};
+ghost use Rattle.std.specs.Prelude.{IfSome, ◌++◌, OnOk};
 ghost use mathlib.Core.List.{IsPrefix};
 ghost use Rattle.group_history.specs.Map.{Entries};
 ghost use Rattle.group_history.specs.Meaning.{Meaning, left_by, meaning_of};
@@ -164,10 +164,10 @@ fn run_done<C: Chunks + Copy, K: NamesContents, M: Runs>(
     }
 }
 
-/// The map that the mutations leave, run in order on the map of a root; none where the group hasn't a mutator. A note costs
-/// half as much as a run of a small mutator: none is taken at first, and where one isn't done all are run once more, with
-/// notes. Chunks that are put back are new ones. So where something was put back, those that were done are run a third
-/// time, alone.
+/// The map that the mutations leave, run in order on the map of a root; none where the group hasn't a mutator. A note
+/// costs half as much as a run of a small mutator: none is taken at first, and where one isn't done all are run once
+/// more, with notes. Chunks that are put back are new ones. So where something was put back, those that were done are
+/// run a third time, alone.
 pub fn run_pending<C: Chunks + Copy, K: NamesContents, M: Runs>(
     setting: &Setting<'_, C, M>,
     draft: &Draft,
@@ -246,8 +246,8 @@ fn add_all<K: NamesContents>(
     add_over(draft, tip, root, CommitChange::Local(mutation))
 }
 
-/// Drafts a commit for each of the mutations, in order. The last one alone has the map that they left, which the tree is:
-/// queries read at heads, and no other of these commits is one.
+/// Drafts a commit for each of the mutations, in order. The last one alone has the map that they left, which the tree
+/// is: queries read at heads, and no other of these commits is one.
 pub fn add_replayed<C: Chunks + Copy, K: NamesContents, M: Means>(
     setting: &Setting<'_, C, M>,
     draft: &mut Draft,
@@ -258,7 +258,8 @@ pub fn add_replayed<C: Chunks + Copy, K: NamesContents, M: Means>(
     requires known { C.contents setting.now.chunks ≡ K.known }
     requires behind { draft.old.first ≡ length K.known }
     requires tip { (s : State) × IsTip M.means (with_nodes K.known draft.old.nodes) basis s × (s.closed ≡ false)
-        × (tree_map (with_nodes K.known draft.old.nodes) tree ≡ Some (map_after M.means (view_of M.means s) pending.now)) }
+        × (tree_map (with_nodes K.known draft.old.nodes) tree
+        ≡ Some (map_after M.means (view_of M.means s) pending.now)) }
     ensures tip { (s : State) → IsTip M.means (with_nodes K.known draft.old.nodes) basis s → s.closed ≡ false
         → tree_map (with_nodes K.known draft.old.nodes) tree ≡ Some (map_after M.means (view_of M.means s) pending.now)
         → IfOk result (λ after. IsTip M.means (with_nodes K.known draft.new.nodes) after (with_more s pending.now)) }

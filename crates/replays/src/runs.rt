@@ -180,8 +180,8 @@ fn replay_known<C: Chunks + Drop, K: NamesContents, S: NamesMap, M: Runs>(
     }
 }
 
-/// Replays a mutation on a tree, for the mutation's reason, if the group has its mutator. Where that isn't done, the map
-/// is as it was.
+/// Replays a mutation on a tree, for the mutation's reason, if the group has its mutator. Where that isn't done, the
+/// map is as it was.
 pub fn replay_on<'a, C: Chunks + Copy, K: NamesContents, M: Runs>(
     setting: &Setting<'_, C, M>,
     draft: &'a Draft,
@@ -193,7 +193,8 @@ pub fn replay_on<'a, C: Chunks + Copy, K: NamesContents, M: Runs>(
     requires behind { draft.now.first ≡ length K.known }
     requires map { IsSome (tree_map (with_nodes K.known draft.now.nodes) tree) }
     ensures left { (m : Entries) → tree_map (with_nodes K.known draft.now.nodes) tree ≡ Some m
-        → IfOk result (MayReplay (with_nodes K.known draft.now.nodes) (M.has mutation.now.name) M.means m mutation.now) }
+        → IfOk result (MayReplay (with_nodes K.known draft.now.nodes) (M.has mutation.now.name)
+        M.means m mutation.now) }
     ensures err { IfErr result (λ e. (e ≡ NoMemory) ⊎ StopsAs C.stops e) }
 {
     let staged = Staged::<'a, C, K>::new(setting.chunks, draft);

@@ -1,5 +1,5 @@
-//! Answers the lines of a script on standard input, each at once, on standard output. The status is 0 where the input was
-//! answered to its end, and 3 where memory was refused or a stream failed; what failed is told on standard error.
+//! Answers the lines of a script on standard input, each at once, on standard output. The status is 0 where the input
+//! was answered to its end, and 3 where memory was refused or a stream failed; what failed is told on standard error.
 //! Arguments are not read.
 #![tactic(auto)]
 

@@ -1,5 +1,6 @@
 -- Parts behind a word: none but so many, and so many.
-use Rattle.std.proofs.Common.{◌≡◌, ◌≢◌, ℕ, List, [], ◌∷◌, length, get_or, Ok, Err, refl, sym, ap, ap₂, ◌∙◌, subst, arith}
+use Rattle.std.proofs.Common.{◌≡◌, ◌≢◌, ℕ, List, [], ◌∷◌, length, get_or, Ok, Err, refl, sym, ap, ap₂, ◌∙◌, subst}
+use Rattle.std.proofs.Common.{arith}
 use Rattle.serde_json.specs.View.{view, items_view}
 use Rattle.serde_json.specs.declared.value.Value.{Value}
 use Rattle.group_history.specs.Map.{Bytes}
@@ -66,7 +67,8 @@ second_refuses e place vs a b x f long first second is h =
     ∙ ap (λ (r : Result rule.Expression RuleFault). r >>= f (part_at place 1 a, part_at place 2 b)) is) h
 
 pub field_said-at : (place : Bytes) (vs : List Value) (a b : Value) → length vs ≡ 3 → a ≡ get_or vs 1 a
-    → b ≡ get_or vs 2 b → field_said place (parts_behind place (items_view vs)) ≡ (expression_said (item_at place 1) (view a)
+    → b ≡ get_or vs 2 b → field_said place (parts_behind place (items_view vs))
+    ≡ (expression_said (item_at place 1) (view a)
     >>= (λ e. name_said (item_at place 2) (view b) >>= (λ s. Ok (rule.field e s))))
 field_said-at place vs a b long first second =
     ap (λ (t : Result (Part × Part) RuleFault). t
@@ -74,7 +76,8 @@ field_said-at place vs a b long first second =
     (the_two-at place vs a b long first second)
 
 pub need_said-at : (place : Bytes) (vs : List Value) (a b : Value) → length vs ≡ 3 → a ≡ get_or vs 1 a
-    → b ≡ get_or vs 2 b → need_said place (parts_behind place (items_view vs)) ≡ (expression_said (item_at place 1) (view a)
+    → b ≡ get_or vs 2 b → need_said place (parts_behind place (items_view vs))
+    ≡ (expression_said (item_at place 1) (view a)
     >>= (λ e. code_said (item_at place 2) (view b) >>= (λ n. Ok (rule.need e n))))
 need_said-at place vs a b long first second =
     ap (λ (t : Result (Part × Part) RuleFault). t
@@ -92,7 +95,8 @@ not_a_choice place (w ∷ a ∷ b ∷ d ∷ e ∷ vs) other = refl
 
 -- what follows the expression, and the first list
 abbrev pub after_first : Bytes → Value → rule.Expression → rule.Steps → Result rule.Step RuleFault
-after_first place d e on_true = steps_said (item_at place 3) (view d) >>= (λ on_false. Ok (rule.choice e on_true on_false))
+after_first place d e on_true =
+    steps_said (item_at place 3) (view d) >>= (λ on_false. Ok (rule.choice e on_true on_false))
 
 abbrev pub after_test : Bytes → Value → Value → rule.Expression → Result rule.Step RuleFault
 after_test place b d e = steps_said (item_at place 2) (view b) >>= after_first place d e
@@ -110,7 +114,8 @@ choice-at place (w ∷ x ∷ y ∷ z ∷ v ∷ vs) a b d long first second third
 
 -- a fault in the first of three parts, in the second and in the third
 pub choice_first : (e : RuleFault) (place : Bytes) (vs : List Value) (a : Value) → length vs ≡ 4 → a ≡ get_or vs 1 a
-    → Refuses e (expression_said (item_at place 1) (view a)) → Refuses e (choice_said place (branches_behind place (items_view vs)))
+    → Refuses e (expression_said (item_at place 1) (view a))
+    → Refuses e (choice_said place (branches_behind place (items_view vs)))
 choice_first e place [] a long first h = absurd (omega arith)
 choice_first e place (w ∷ []) a long first h = absurd (omega arith)
 choice_first e place (w ∷ x ∷ []) a long first h = absurd (omega arith)
@@ -122,7 +127,8 @@ choice_first e place (w ∷ x ∷ y ∷ z ∷ v ∷ vs) a long first h = absurd 
 
 pub choice_second : (e : RuleFault) (place : Bytes) (vs : List Value) (a b : Value) (p : rule.Expression)
     → length vs ≡ 4 → a ≡ get_or vs 1 a → b ≡ get_or vs 2 b → expression_said (item_at place 1) (view a) ≡ Ok p
-    → Refuses e (steps_said (item_at place 2) (view b)) → Refuses e (choice_said place (branches_behind place (items_view vs)))
+    → Refuses e (steps_said (item_at place 2) (view b))
+    → Refuses e (choice_said place (branches_behind place (items_view vs)))
 choice_second e place [] a b p long first second is h = absurd (omega arith)
 choice_second e place (w ∷ []) a b p long first second is h = absurd (omega arith)
 choice_second e place (w ∷ x ∷ []) a b p long first second is h = absurd (omega arith)
@@ -138,7 +144,8 @@ choice_second e place (w ∷ x ∷ y ∷ z ∷ v ∷ vs) a b p long first second
 pub choice_third : (e : RuleFault) (place : Bytes) (vs : List Value) (a b d : Value) (p : rule.Expression)
     (q : rule.Steps) → length vs ≡ 4 → a ≡ get_or vs 1 a → b ≡ get_or vs 2 b → d ≡ get_or vs 3 d
     → expression_said (item_at place 1) (view a) ≡ Ok p → steps_said (item_at place 2) (view b) ≡ Ok q
-    → Refuses e (steps_said (item_at place 3) (view d)) → Refuses e (choice_said place (branches_behind place (items_view vs)))
+    → Refuses e (steps_said (item_at place 3) (view d))
+    → Refuses e (choice_said place (branches_behind place (items_view vs)))
 choice_third e place vs a b d p q long first second third is also h =
     refuses_by e (after_first place d p q) _
     (choice-at place vs a b d long first second third

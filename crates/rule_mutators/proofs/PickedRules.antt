@@ -26,7 +26,8 @@ RunsAs-prop (done m) ran.Unknown left = λ p q. absurd p
 RunsAs-prop (done m) ran.Done left = Coded-set (finite.code (coded_list coded_ℕ) (coded_list coded_ℕ)) left m
 RunsAs-prop (done m) (ran.Refused c) left = λ p q. absurd p
 
-pub ran_as_picked : (held picked : Rules) (name args : Bytes) (why : Reason) (m left : Entries) (result : Result Ran Stop)
+pub ran_as_picked : (held picked : Rules) (name args : Bytes) (why : Reason) (m left : Entries)
+    (result : Result Ran Stop)
     → ∥ held ≡ picked ∥₁ → IfOk result (λ r. RunsAs (rules_mean held name args why m) r left)
     → IfOk result (λ r. RunsAs (rules_mean picked name args why m) r left)
 ran_as_picked held picked name args why m left (Err e) same ran = ran

@@ -52,7 +52,8 @@ step_step (Step-F.Put key e) = spec.put (expression_of key) (expression_of e)
 step_step (Step-F.Del key) = spec.del (expression_of key)
 step_step (Step-F.Merge key e) = spec.merge (expression_of key) (expression_of e)
 step_step (Step-F.Need e code) = spec.need (expression_of e) code
-step_step (Step-F.If e on_true on_false) = spec.choice (expression_of e) (steps_of on_true.items) (steps_of on_false.items)
+step_step (Step-F.If e on_true on_false) =
+    spec.choice (expression_of e) (steps_of on_true.items) (steps_of on_false.items)
 
 abbrev pub step_of : Step → spec.Step
 step_of = fold-Step spec.Step step_step

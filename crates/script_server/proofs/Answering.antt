@@ -132,7 +132,8 @@ counted f xs ys e = sym (length-map xs f) ∙ ap length e
 begun_by : (n : ℕ) (c said : Context) → c.phases ≡ [] → AsksFor n c asked.Phase said
     → 0 < length (without_lines said).phases
 begun_by n c said none asks =
-    let one : said.phases ≡ new_phase (length c.clients) ∷ [] = asks ∙ ap (λ ps. ps ++ new_phase (length c.clients) ∷ []) none in
+    let one : said.phases ≡ new_phase (length c.clients) ∷ [] =
+    asks ∙ ap (λ ps. ps ++ new_phase (length c.clients) ∷ []) none in
     subst (λ ps. 0 < length (bare (length said.clients) ps)) (sym one) (omega arith)
 
 -- what the code knows of a line that was answered before the first phase

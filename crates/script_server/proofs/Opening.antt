@@ -15,7 +15,8 @@ use Rattle.script_server.proofs.Served.{ended_here, ended_on, ended_within, serv
 pub ended_unbegun : (old at : Place) → HasBegun old at → HasEnded old at.output
 ended_unbegun old at begun = subst (HasEnded old) (sym begun.output) (ended_here old)
 
-answered_first : (old at : Place) (after : Standing) (begun : HasBegun old at) → Opens at.standing at.standing.said after
+answered_first : (old at : Place) (after : Standing) (begun : HasBegun old at)
+    → Opens at.standing at.standing.said after
     → Answers old.number begun.line old.standing (ok_text at.number) after
 answered_first old at after begun opens =
     subst (λ n. Answers old.number begun.line old.standing (ok_text n) after) (sym begun.number)

@@ -94,7 +94,8 @@ BeginsPhase (p ∷ ps) before said after = after ≡ record before { said = said
 -- ---- any line
 
 -- the client at a place does the command of its line
-pub record Tells (place : ℕ) (line : Line) (before : Standing) (said : Context) (text : Bytes) (after : Standing) : Type 0
+pub record Tells (place : ℕ) (line : Line) (before : Standing) (said : Context) (text : Bytes)
+    (after : Standing) : Type 0
   where
     pub told : IsToldAt (means_in before) before.sights place (line_said line) before.players text after.players
     pub left : after ≡ record before { said = said; players = after.players }

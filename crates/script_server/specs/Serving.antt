@@ -15,8 +15,8 @@ Serves n (l ∷ ls) before text after =
     (answer : Bytes) × (next : Standing) × (rest : Bytes) × Answers n l before answer next × IsLine answer
     × (text ≡ answer ++ rest) × Serves (n + 1) ls next rest after
 
--- Where serving is, between two lines: how things stand, the number of the next line, what is left of the input and what
--- the writer has, where these are known.
+-- Where serving is, between two lines: how things stand, the number of the next line, what is left of the input and
+-- what the writer has, where these are known.
 pub record Place : Type 0 where
   pub standing : Standing
   pub number : ℕ
@@ -44,8 +44,8 @@ pub record IsCut (at : Place) (cut : Bytes) : Type 0 where
   pub one : IsLine answer
   pub begins : IsPrefix cut answer
 
--- Serving ended early at the last place: of the next answer nothing was written, or a beginning. Such a line, if there was
--- one, may have been done.
+-- Serving ended early at the last place: of the next answer nothing was written, or a beginning. Such a line, if there
+-- was one, may have been done.
 pub record HasEnded (old : Place) (output : Option Bytes) : Type 0 where
   pub last : Place
   pub served : Served old last

@@ -7,7 +7,8 @@ ghost use Rattle.script_parser.specs.Reading.{kept_by};
 ghost use Rattle.script_parser.specs.Words.{more, word};
 ghost use Rattle.script_server.specs.Answers.{GivesRules, behind_rules, first_rules, given_in, rules_given, rules_with};
 ghost use Rattle.script_server.specs.Serving.{HasEnded};
-ghost use Rattle.script_server.specs.Inside.Stages.{AreHeads, HasTurned, IsHead, IsHeadOf, IsNoCommand, heads_stand, place_of};
+ghost use Rattle.script_server.specs.Inside.Stages.{AreHeads, HasTurned, IsHead, IsHeadOf, IsNoCommand, heads_stand};
+ghost use Rattle.script_server.specs.Inside.Stages.{place_of};
 
 use crate::printing::{print_fault, print_ok, rules_fault};
 use crate::streams::{Buffers, Stop, read_line, write_answer};

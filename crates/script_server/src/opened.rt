@@ -5,8 +5,8 @@ ghost use Rattle.script_parser.specs.declared.script.Asked.TheVariants as kind;
 ghost use Rattle.script_server.specs.Answers.{Answers, IsLine, Opens, ok_text};
 ghost use Rattle.script_server.specs.Serving.{HasEnded, Place};
 ghost use Rattle.script_server.specs.Standing.{Standing, rules_in};
-ghost use Rattle.script_server.specs.Inside.Stages.{HasAnswered, HasBegun, HasDone, IsPlaced, IsServed, IsOpen, heads_stand};
-ghost use Rattle.script_server.specs.Inside.Stages.{opened_stand, place_of};
+ghost use Rattle.script_server.specs.Inside.Stages.{HasAnswered, HasBegun, HasDone, IsPlaced, IsServed, IsOpen};
+ghost use Rattle.script_server.specs.Inside.Stages.{heads_stand, opened_stand, place_of};
 ghost use Rattle.script_server.specs.Inside.Writes.{WritesSome};
 
 use crate::heads::Heads;

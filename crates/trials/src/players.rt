@@ -25,7 +25,8 @@ struct Named {
     watch: Watch<ScriptMutators>,
 }
 
-/// A client, and what it keeps between its calls: tickets, and two watches. Another client of its ID looks at the group.
+/// A client, and what it keeps between its calls: tickets, and two watches. Another client of its ID looks at the
+/// group.
 #[derive(Drop)]
 pub(crate) struct Player<'g, S: Store<ScriptMutators>> {
     group: &'g Group<ScriptMutators, S>,
@@ -314,7 +315,8 @@ impl<'g, S: Store<ScriptMutators> + Drop> Player<'g, S> {
         say_change(out, &before, &after, is_change);
     }
 
-    /// Makes calls as one list, and says each reply and a line feed; and where its looker sees what it should not, that.
+    /// Makes calls as one list, and says each reply and a line feed; and where its looker sees what it should not,
+    /// that.
     pub(crate) fn tries_list<R>(
         &mut self,
         it: &Turn<'_, R>,

@@ -74,8 +74,8 @@ abbrev pub ChildReplaced : Contents → Option Bytes → Bytes → ℕ → ℕ �
 ChildReplaced contents found value below place old new child half = (n : Kid) × (new ≡ slice_set old place (Own n))
     × HasReplaced contents found value below (child_levels below child) (seen_levels n.value) half
 
--- A value is put in an own chunk: what it and its upper half show then, which of its pieces are the same, and what holds
--- where the key was there.
+-- A value is put in an own chunk: what it and its upper half show then, which of its pieces are the same, and what
+-- holds where the key was there.
 pub record IsOwnPut (contents : Contents) (key value : Bytes) (rows : Option Rows) (old new : List Piece)
     (deep : ℕ) (was now : Contents → Levels) (half : Option Half) : Type 0 where
   pub shown_is : shown contents (new ++ half_pieces half) ≡ Some (put (slice_cmp nat_cmp) key value (rows_or rows))

@@ -1,5 +1,5 @@
-//! Own chunks made of placed ones on the way up, with what a put made below them. All placed chunks stay as they are, so
-//! memory may be refused at any of these steps.
+//! Own chunks made of placed ones on the way up, with what a put made below them. All placed chunks stay as they are,
+//! so memory may be refused at any of these steps.
 ghost use Rattle.std.specs.Prelude.{◌≡◌, ◌+◌, ◌++◌, ◌<◌, ◌≤◌, ◌^◌, [], length, slice_index_or, IfOk, IsSome};
 ghost use Rattle.std.specs.Prelude.{vec_items, vec_len, vec_capacity};
 ghost use Rattle.std.specs.Ordering.{nat_cmp};
@@ -23,8 +23,8 @@ use group_history::{Inner, Json, Leaf, Ref, SearchKey, Text};
 use map_chunks::keys::{NodeKeys, ROOM};
 use std::alloc::{AllocError, Global};
 
-/// A way down to a key: how many copies of an upper half's first key are wanted, one for each chunk above; and whether a
-/// trail will do.
+/// A way down to a key: how many copies of an upper half's first key are wanted, one for each chunk above; and whether
+/// a trail will do.
 #[derive(Drop)]
 pub(crate) struct Down<'a> {
     pub(crate) alloc: Global,

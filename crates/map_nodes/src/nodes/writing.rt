@@ -15,9 +15,9 @@ use map_chunks::Chunks;
 use std::alloc::Global;
 
 impl OwnNode {
-    /// Puts what a change makes of the value at a key in the map whose root the chunk is. Where it is there already, and
-    /// where the change refuses, the chunk is as it was. Stops for want of memory, or as the store or the change does,
-    /// and the chunk is as it was then.
+    /// Puts what a change makes of the value at a key in the map whose root the chunk is. Where it is there already,
+    /// and where the change refuses, the chunk is as it was. Stops for want of memory, or as the store or the change
+    /// does, and the chunk is as it was then.
     pub fn write<C: Chunks, F: FnOnce(Option<Json>) -> Result<Update, Stop>>(
         &mut self,
         alloc: Global,

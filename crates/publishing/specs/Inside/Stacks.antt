@@ -19,8 +19,8 @@ AreOnce (x ∷ xs) = (In xs x → ⊥) × AreOnce xs
 abbrev pub HasTaken : View → List ℕ → Type 0
 HasTaken v slots = (v.taken ≡ reverse slots) × AreOnce v.taken
 
--- Of the slots taken at v those of `settled` were settled, one after the other, and then those of `withdrawn` withdrawn.
--- The others are taken still, and nothing else was done.
+-- Of the slots taken at v those of `settled` were settled, one after the other, and then those of `withdrawn`
+-- withdrawn. The others are taken still, and nothing else was done.
 abbrev pub Uses : View → List ℕ → List ℕ → View → Type 0
 Uses v settled withdrawn u = (v.taken ≡ settled ++ (withdrawn ++ u.taken))
     × (u.deeds ≡ map deed.withdrew (reverse withdrawn) ++ (map deed.settled (reverse settled) ++ v.deeds))

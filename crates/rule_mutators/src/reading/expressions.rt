@@ -75,14 +75,16 @@ fn two(alloc: Global, word: Two, both: (Expr, Expr)) -> Result<Expr, RuleFault>
 }
 
 fn read_argument(alloc: Global, place: &str, items: &[Value]) -> Result<Expr, RuleFault>
-    ensures { AnswersSeen expression_of result (spec.argument_said place.now (parts_behind place.now (items_view items.now))) }
+    ensures { AnswersSeen expression_of result
+        (spec.argument_said place.now (parts_behind place.now (items_view items.now))) }
 {
     let part = one_part(alloc, place, items)?;
     Ok(Expr::Argument(read_which(alloc, place, 1, part)?))
 }
 
 fn read_lit(alloc: Global, place: &str, items: &[Value]) -> Result<Expr, RuleFault>
-    ensures { AnswersSeen expression_of result (spec.lit_said place.now (parts_behind place.now (items_view items.now))) }
+    ensures { AnswersSeen expression_of result
+        (spec.lit_said place.now (parts_behind place.now (items_view items.now))) }
 {
     let part = one_part(alloc, place, items)?;
     let at = item_at(alloc, place, 1)?;
@@ -108,7 +110,8 @@ pub(crate) fn read_part(
 #[cycle(expression)]
 #[tactic(auto, using(crate::proofs::Parts::not_the_one))]
 pub(crate) fn read_one(alloc: Global, place: &str, items: &[Value]) -> Result<Expr, RuleFault>
-    ensures { AnswersSeen expression_of result (spec.one_said place.now (parts_behind place.now (items_view items.now))) }
+    ensures { AnswersSeen expression_of result
+        (spec.one_said place.now (parts_behind place.now (items_view items.now))) }
 {
     if items.len() != 2 {
         return Err(fault(alloc, place, Wrong::Parts));
@@ -124,7 +127,8 @@ pub(crate) fn read_two(
     place: &str,
     items: &[Value],
 ) -> Result<(Expr, Expr), RuleFault>
-    ensures { AnswersSeen both_expressions result (spec.two_said place.now (parts_behind place.now (items_view items.now))) }
+    ensures { AnswersSeen both_expressions result
+        (spec.two_said place.now (parts_behind place.now (items_view items.now))) }
 {
     if items.len() != 3 {
         return Err(fault(alloc, place, Wrong::Parts));
@@ -137,7 +141,8 @@ pub(crate) fn read_two(
 #[cycle(expression)]
 #[tactic(auto, using(crate::proofs::Parts::not_the_two))]
 fn read_field(alloc: Global, place: &str, items: &[Value]) -> Result<Expr, RuleFault>
-    ensures { AnswersSeen expression_of result (spec.field_said place.now (parts_behind place.now (items_view items.now))) }
+    ensures { AnswersSeen expression_of result
+        (spec.field_said place.now (parts_behind place.now (items_view items.now))) }
 {
     if items.len() != 3 {
         return Err(fault(alloc, place, Wrong::Parts));

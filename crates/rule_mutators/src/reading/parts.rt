@@ -73,7 +73,8 @@ pub(crate) fn one_part<'v>(
     place: &str,
     items: &'v [Value],
 ) -> Result<&'v Value, RuleFault>
-    ensures { AnswersSeen (λ v. data_of v.now) result (spec.one_value place.now (parts_behind place.now (items_view items.now))) }
+    ensures { AnswersSeen (λ v. data_of v.now) result
+        (spec.one_value place.now (parts_behind place.now (items_view items.now))) }
 {
     if items.len() != 2 {
         return Err(fault(alloc, place, Wrong::Parts));

@@ -101,7 +101,8 @@ fn read_need(alloc: Global, place: &str, items: &[Value]) -> Result<Step, RuleFa
 #[cycle(step)]
 #[tactic(auto, using(crate::proofs::Parts::not_a_choice))]
 fn read_choice(alloc: Global, place: &str, items: &[Value]) -> Result<Step, RuleFault>
-    ensures { AnswersSeen step_of result (spec.choice_said place.now (branches_behind place.now (items_view items.now))) }
+    ensures { AnswersSeen step_of result
+        (spec.choice_said place.now (branches_behind place.now (items_view items.now))) }
 {
     if items.len() != 4 {
         return Err(fault(alloc, place, Wrong::Parts));

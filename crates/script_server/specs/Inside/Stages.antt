@@ -1,5 +1,6 @@
 -- The two stages of serving, in the code: before the first phase, and from it on.
-use Rattle.std.specs.Prelude.{◌≡◌, ℕ, ◌+◌, ◌<◌, ⊤, Bool, true, false, [], ◌∷◌, length, List, Option, Some, None, option_map, Ok}
+use Rattle.std.specs.Prelude.{◌≡◌, ℕ, ◌+◌, ◌<◌, ⊤, Bool, true, false, [], ◌∷◌, length, List, Option, Some, None}
+use Rattle.std.specs.Prelude.{option_map, Ok}
 use Rattle.std.specs.Io.KnownBytes.{IsAtEnd}
 use Rattle.group_history.specs.Map.{Bytes}
 use Rattle.rule_mutators.specs.declared.mutators.Picked as Picked

@@ -45,7 +45,8 @@ returns-clause-step g c =
     tree.1 in
     let shape : Entries → Version = λ r. record { state = after_mutate s x; read = r } in
     let read = left-done right (view_of means s) tree.0 tree.2 ∙ sym (view-mutated means s x) in
-    let reply = reply_next means s x last n.next.opened n.next.own n.next.next ∙ reply-done right tree.0 x.id tree.2 in (
+    let reply = reply_next means s x last n.next.opened n.next.own n.next.next
+    ∙ reply-done right tree.0 x.id tree.2 in (
       ap (map_ok (λ id. true)) reply,
       record {
         begins = ap (λ (p : Place). p.commit) c.at.view_is;

@@ -639,7 +639,8 @@ OwnNode::put-returns-in-Leaf-clause-unput g t c =
     subst (λ z. IfErr c.put_leaf.result (IsUnput (λ made. Makes (λ f there m. g.F.FnOnce.post f (there, tt) m)
     c.args.change (value_in z key) made) stops (value_in z key))) (sym was)
     (unput_anyhow (λ made. Makes (λ f there m. g.F.FnOnce.post f (there, tt) m) c.args.change
-    (finite.find (slice_cmp nat_cmp) key (paired c.self.inside.keys.texts c.in-Leaf.values.items)) made) stops _ c.put_leaf.result c.put_leaf.ensures.unput)
+    (finite.find (slice_cmp nat_cmp) key (paired c.self.inside.keys.texts c.in-Leaf.values.items)) made) stops _
+    c.put_leaf.result c.put_leaf.ensures.unput)
 
 pub OwnNode::put-put_inner-requires : goal.OwnNode::put-put_inner-requires
 OwnNode::put-put_inner-requires g t c κs within =
@@ -795,7 +796,8 @@ putting::paths::put_child-returns-in-Own-clause-unput g t c x h =
     let e : x ≡ Own c.in-Own.node = indexed_child c.args.kids.now.items c.args.place c.index_mut.result.now x
     c.requires.within c.index_mut.ensures.value h ∙ c.in-Own.is in
     let unput = λ (z : Option Rows). IfErr c.put_below.result (IsUnput (λ made.
-    Makes (λ f there m. g.F.FnOnce.post f (there, tt) m) c.args.change (value_in z key) made) g.C.Chunks.stops (value_in z key)) in
+    Makes (λ f there m. g.F.FnOnce.post f (there, tt) m) c.args.change (value_in z key) made) g.C.Chunks.stops
+    (value_in z key)) in
     subst (λ y. unput (child_rows p c.args.below y)) (sym e)
     (subst (λ (s : Seen). unput (shown p s.pieces)) c.deref_mut.ensures.value c.put_below.ensures.unput)
 
@@ -815,7 +817,8 @@ putting::paths::put_child-returns-in_err-ready-in-Placed-clause-unput g t c x h 
     let tree : IsTree (rows_at p below k) = subst (λ y. IsTree (child_rows p below y)) c.in-Placed.is r.0 in
     let there : chunk_rows p k ≡ child_rows p below x = rows_alone p below k tree ∙ ap (child_rows p below) (sym e) in
     let unput = λ (z : Option Rows). IsUnput (λ made.
-    Makes (λ f there m. g.F.FnOnce.post f (there, tt) m) c.args.change (value_in z key) made) g.C.Chunks.stops (value_in z key) in
+    Makes (λ f there m. g.F.FnOnce.post f (there, tt) m) c.args.change (value_in z key) made) g.C.Chunks.stops
+    (value_in z key) in
     let why = subst (λ z. IfErr c.put_placed.result (unput z)) there c.put_placed.ensures.unput in
     handed_on c.from_residual.result c.from_residual.ensures.1
     (λ w is. subst (unput (child_rows p below x)) (sym is)

@@ -1,6 +1,6 @@
 //! What an inner chunk needs before a row is put below it.
-ghost use Rattle.std.specs.Prelude.{◌≡◌, ◌<◌, ◌≤◌, ◌+◌, [], true, length, IfOk, OnOk, IsSome, slice_index_or, vec_items};
-ghost use Rattle.std.specs.Prelude.{vec_capacity};
+ghost use Rattle.std.specs.Prelude.{◌≡◌, ◌<◌, ◌≤◌, ◌+◌, [], true, length, IfOk, OnOk, IsSome, slice_index_or};
+ghost use Rattle.std.specs.Prelude.{vec_items, vec_capacity};
 ghost use Rattle.map_chunks.specs.Search.{IsPlace};
 ghost use Rattle.map_nodes.specs.Inside.Halves.{IsLower};
 ghost use Rattle.map_nodes.specs.Inside.Ready.{IsReady};

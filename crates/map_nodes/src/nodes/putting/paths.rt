@@ -63,7 +63,8 @@ fn put_inner<C: Chunks, F: FnOnce(Option<Json>) -> Result<Update, Stop>>(
         (shown (C.contents chunks.old) (body_pieces depth keys.old.texts (body.Inner kids.old))) put.entry.key.now)
         (Ok (Puts v)) × IsOwnPut (C.contents chunks.new) put.entry.key.now v
         (shown (C.contents chunks.old) (body_pieces depth keys.old.texts (body.Inner kids.old)))
-        (body_pieces depth keys.old.texts (body.Inner kids.old)) (body_pieces depth keys.new.texts (body.Inner kids.new))
+        (body_pieces depth keys.old.texts (body.Inner kids.old))
+        (body_pieces depth keys.new.texts (body.Inner kids.new))
         depth (body_levels depth keys.old.texts (body.Inner kids.old))
         (body_levels depth keys.new.texts (body.Inner kids.new)) half) }
     ensures half { IfOk result (IsHalf put.entry.copies depth) }
@@ -78,7 +79,8 @@ fn put_inner<C: Chunks, F: FnOnce(Option<Json>) -> Result<Update, Stop>>(
     ensures filled { OnOk result (0 < length (body_pieces depth keys.new.texts (body.Inner kids.new))) }
     ensures err { OnErr result ((keys.new.texts ≡ keys.old.texts) × (kids.new.items ≡ kids.old.items)) }
     ensures unput { IfErr result (IsUnput (λ made. Makes (λ f x r. F.post f x r) change (value_in
-        (shown (C.contents chunks.old) (body_pieces depth keys.old.texts (body.Inner kids.old))) put.entry.key.now) made)
+        (shown (C.contents chunks.old) (body_pieces depth keys.old.texts (body.Inner kids.old))) put.entry.key.now)
+        made)
         C.stops (value_in (shown (C.contents chunks.old)
         (body_pieces depth keys.old.texts (body.Inner kids.old))) put.entry.key.now)) }
 {
@@ -126,7 +128,8 @@ fn put_child<C: Chunks, F: FnOnce(Option<Json>) -> Result<Update, Stop>>(
     ensures err { OnErr result (kids.new.items ≡ kids.old.items) }
     ensures unput { (c : Childs) → slice_get kids.old.items place ≡ Some c
         → IfErr result (IsUnput (λ made. Makes (λ f x r. F.post f x r) change
-        (value_in (child_rows (C.contents chunks.old) below c) put.entry.key.now) made) C.stops (value_in (child_rows (C.contents chunks.old) below c) put.entry.key.now)) }
+        (value_in (child_rows (C.contents chunks.old) below c) put.entry.key.now) made) C.stops
+        (value_in (child_rows (C.contents chunks.old) below c) put.entry.key.now)) }
 {
     match &mut kids[place] {
         OwnChild::Own(node) => return node.put_below(keys, place, chunks, put, change),
@@ -166,7 +169,8 @@ fn put_placed<C: Chunks, F: FnOnce(Option<Json>) -> Result<Update, Stop>>(
     ensures ready { IfOk result (λ r. IsSome r.2
         → IsReady put.entry.copies keys.old.texts keys.new.room place put.entry.key.now r.0.room) }
     ensures unput { IfErr result (IsUnput (λ made. Makes (λ f x r. F.post f x r) change
-        (value_in (chunk_rows (C.contents chunks.old) (stamp_of at)) put.entry.key.now) made) C.stops (value_in (chunk_rows (C.contents chunks.old) (stamp_of at)) put.entry.key.now)) }
+        (value_in (chunk_rows (C.contents chunks.old) (stamp_of at)) put.entry.key.now) made) C.stops
+        (value_in (chunk_rows (C.contents chunks.old) (stamp_of at)) put.entry.key.now)) }
 {
     let reached = change_placed(at, chunks, put, change)?;
     taken_up(keys, place, put, reached)
@@ -233,8 +237,8 @@ fn taken_up(
 }
 
 impl OwnNode {
-    // Puts a row in a child of a chunk with these keys. Where the child is full, what an upper half of it needs is taken
-    // first.
+    // Puts a row in a child of a chunk with these keys. Where the child is full, what an upper half of it needs is
+    // taken first.
     #[cycle(put)]
     fn put_below<C: Chunks, F: FnOnce(Option<Json>) -> Result<Update, Stop>>(
         &mut self,
@@ -269,7 +273,8 @@ impl OwnNode {
             → IsReady put.entry.copies keys.old.texts keys.new.room place put.entry.key.now r.0.room) }
         ensures err { OnErr result (self.new ≡ self.old) }
         ensures unput { IfErr result (IsUnput (λ made. Makes (λ f x r. F.post f x r) change
-            (value_in (shown (C.contents chunks.old) self.old.pieces) put.entry.key.now) made) C.stops (value_in (shown (C.contents chunks.old) self.old.pieces) put.entry.key.now)) }
+            (value_in (shown (C.contents chunks.old) self.old.pieces) put.entry.key.now) made) C.stops
+            (value_in (shown (C.contents chunks.old) self.old.pieces) put.entry.key.now)) }
     {
         let may_split = self.keys.as_slice().len() >= MOST;
         let ready = PutBuffers::of_child(keys, put, place, may_split)?;
@@ -311,7 +316,8 @@ impl OwnNode {
         ensures filled { OnOk result (0 < length self.new.pieces) }
         ensures err { OnErr result (self.new ≡ self.old) }
         ensures unput { IfErr result (IsUnput (λ made. Makes (λ f x r. F.post f x r) change
-            (value_in (shown (C.contents chunks.old) self.old.pieces) put.entry.key.now) made) C.stops (value_in (shown (C.contents chunks.old) self.old.pieces) put.entry.key.now)) }
+            (value_in (shown (C.contents chunks.old) self.old.pieces) put.entry.key.now) made) C.stops
+            (value_in (shown (C.contents chunks.old) self.old.pieces) put.entry.key.now)) }
     {
         match &mut self.body {
             Body::Leaf(values) => {

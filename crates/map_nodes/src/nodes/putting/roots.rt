@@ -128,8 +128,8 @@ fn root_above(lower: Box<OwnNode>, half: Half, first: Text, room: SpareChunk<Own
 }
 
 impl OwnNode {
-    /// Puts what a change makes of the value at a key in the map whose root the chunk is. Where it is there already, and
-    /// where the change refuses, the chunk is as it was. What a root above both halves of a full one needs is taken
+    /// Puts what a change makes of the value at a key in the map whose root the chunk is. Where it is there already,
+    /// and where the change refuses, the chunk is as it was. What a root above both halves of a full one needs is taken
     /// first.
     pub(crate) fn put_root<C: Chunks, F: FnOnce(Option<Json>) -> Result<Update, Stop>>(
         &mut self,

@@ -185,7 +185,8 @@ fn change_leaf<F: FnOnce(Option<Json>) -> Result<Update, Stop>>(
 ) -> Result<Reached, Stop>
     requires callable { CanMake (λ f. F.IsAlwaysCallable f) change }
     ensures reached { IfOk result (λ r. (u : Updates) × Makes (λ f x r. F.post f x r) change (finite.find
-        (slice_cmp nat_cmp) down.now.key.now leaf.now) (Ok u) × IsLeafEnd down.now.copies down.now.as_trail leaf.now down.now.key.now u r laying.new) }
+        (slice_cmp nat_cmp) down.now.key.now leaf.now) (Ok u)
+        × IsLeafEnd down.now.copies down.now.as_trail leaf.now down.now.key.now u r laying.new) }
     ensures stopped { IfErr result (λ e. (e ≡ NoMemory) ⊎ Makes (λ f x r. F.post f x r) change (finite.find
         (slice_cmp nat_cmp) down.now.key.now leaf.now) (Err e)) }
 {
@@ -285,12 +286,14 @@ pub(crate) fn change_at<C: Chunks, F: FnOnce(Option<Json>) -> Result<Update, Sto
 ) -> Result<Reached, Stop>
     requires known { IsTree (chunk_rows (C.contents chunks.old) (stamp_of at)) }
     requires place { C.places chunks.old at }
-    requires copies { (d : ℕ) → chunk_depth (C.contents chunks.old) (stamp_of at) ≡ Some d → down.now.copies + d < 2 ^ 64 }
+    requires copies { (d : ℕ) → chunk_depth (C.contents chunks.old) (stamp_of at) ≡ Some d
+        → down.now.copies + d < 2 ^ 64 }
     requires callable { CanMake (λ f. F.IsAlwaysCallable f) change }
     ensures grown { Grows C.contents C.places chunks.old chunks.new }
     ensures reached { IfOk result (λ r. (u : Updates) × Makes (λ f x r. F.post f x r) change (finite.find
         (slice_cmp nat_cmp) down.now.key.now (rows_or (chunk_rows (C.contents chunks.old) (stamp_of at)))) (Ok u)
-        × IsReached (C.contents chunks.new) (C.places chunks.new) down.now.copies down.now.as_trail (stamp_of at) (chunk_depth (C.contents chunks.old) (stamp_of at))
+        × IsReached (C.contents chunks.new) (C.places chunks.new) down.now.copies down.now.as_trail (stamp_of at)
+        (chunk_depth (C.contents chunks.old) (stamp_of at))
         (rows_or (chunk_rows (C.contents chunks.old) (stamp_of at))) down.now.key.now u r laying.new) }
     ensures stopped { IfErr result (λ e. (e ≡ NoMemory) ⊎ C.stops e ⊎ Makes (λ f x r. F.post f x r) change (finite.find
         (slice_cmp nat_cmp) down.now.key.now (rows_or (chunk_rows (C.contents chunks.old) (stamp_of at)))) (Err e)) }
@@ -314,12 +317,14 @@ fn change_in<C: Chunks, F: FnOnce(Option<Json>) -> Result<Update, Stop>>(
     requires known { IsTree (chunk_rows (C.contents chunks.old) (stamp_of at)) }
     requires content { slice_get (C.contents chunks.old) (stamp_of at) ≡ Some (chunk_content chunk.now) }
     requires children { AreAll (C.places chunks.old) (chunk_children chunk.now) }
-    requires copies { (d : ℕ) → chunk_depth (C.contents chunks.old) (stamp_of at) ≡ Some d → down.now.copies + d < 2 ^ 64 }
+    requires copies { (d : ℕ) → chunk_depth (C.contents chunks.old) (stamp_of at) ≡ Some d
+        → down.now.copies + d < 2 ^ 64 }
     requires callable { CanMake (λ f. F.IsAlwaysCallable f) change }
     ensures grown { Grows C.contents C.places chunks.old chunks.new }
     ensures reached { IfOk result (λ r. (u : Updates) × Makes (λ f x r. F.post f x r) change (finite.find
         (slice_cmp nat_cmp) down.now.key.now (rows_or (chunk_rows (C.contents chunks.old) (stamp_of at)))) (Ok u)
-        × IsReached (C.contents chunks.new) (C.places chunks.new) down.now.copies down.now.as_trail (stamp_of at) (chunk_depth (C.contents chunks.old) (stamp_of at))
+        × IsReached (C.contents chunks.new) (C.places chunks.new) down.now.copies down.now.as_trail (stamp_of at)
+        (chunk_depth (C.contents chunks.old) (stamp_of at))
         (rows_or (chunk_rows (C.contents chunks.old) (stamp_of at))) down.now.key.now u r laying.new) }
     ensures stopped { IfErr result (λ e. (e ≡ NoMemory) ⊎ C.stops e ⊎ Makes (λ f x r. F.post f x r) change (finite.find
         (slice_cmp nat_cmp) down.now.key.now (rows_or (chunk_rows (C.contents chunks.old) (stamp_of at)))) (Err e)) }

@@ -17,7 +17,8 @@ returns-in_err-slots-clause-given g c r =
     on_err c.from_residual.result (gives_unplaced sizes.slots end (length c.args.draft.nodes) c.args.seat.now.view.deeds
     c.args.seat.now _ back (subst (λ n. length back ≤ n) (ap length c.nodes-count.ensures.nodes) few)
     (subst (λ (z : GroupId). AreBelow (kind_end z.table.sizes c.args.kind) back) c.shared.view_is low)
-    (subst (λ (s : Seated). (g.S.Slots.view c.take_all.new.seat).deeds ≡ drafted [] back s.view.deeds) c.seat.view_is did)
+    (subst (λ (s : Seated). (g.S.Slots.view c.take_all.new.seat).deeds ≡ drafted [] back s.view.deeds)
+    c.seat.view_is did)
     (ap (λ (s : Seated). own s.mark) c.seat.view_is))
 
 pub returns-clause-within : goal.returns-clause-within

@@ -35,7 +35,8 @@ place_next-requires-clause-drawn g c κs within =
     let node = c.in-Some.node in
     let whole : c.args.nodes.items ≡ c.loop-node.yielded
     ++ (node ∷ rest) = is.whole ∙ ap (λ w. c.loop-node.yielded ++ w) c.in-Some.ensures.steps.0 in
-    turn_drawn c.args.to.now.from c.args.to.now.first c.args.nodes.items c.loop-node.yielded node rest c.loop-node.refs.items
+    turn_drawn c.args.to.now.from c.args.to.now.first c.args.nodes.items c.loop-node.yielded node rest
+    c.loop-node.refs.items
     (drawn c.args.to.now.mark.now.log) whole is.placed c.requires.order is.stamps c.requires.drawn
 
 pub loop-node-preserved : goal.loop-node-preserved
@@ -62,7 +63,8 @@ loop-node-preserved g c =
       within = λ r end below. let had = is.within r end below in done.within r end had.0 had.1;
       placed = omega (arith, ap length ok.placed.1, length-append refs (at ∷ []), is.placed, one);
       left = omega (arith, done.less, is.left, one);
-      stamps = subst (AreFrom c.args.to.now.first) (sym ok.placed.1) (from_more c.args.to.now.first refs at is.stamps ok.placed.2);
+      stamps = subst (AreFrom c.args.to.now.first) (sym ok.placed.1)
+          (from_more c.args.to.now.first refs at is.stamps ok.placed.2);
       used = λ r. ok.used r first (is.used r);
       steps = λ r. steps_steps first v u (is.steps r) (done.steps r);
     }

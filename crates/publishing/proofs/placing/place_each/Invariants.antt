@@ -16,7 +16,8 @@ invariant-loop-node g l =
       whole : l.fn.nodes.items ≡ l.yielded ++ into_iter_items l.node-iterator;
       home : S.home l.seat ≡ S.serves l.to.store.now;
       taken : S.reused → HasTaken (S.view l.seat) l.slots.items;
-      within : S.reused → (end : ℕ) → AreBelow end l.fn.slots.items → AreBelow end l.slots.items × LieBelow end l.refs.items;
+      within : S.reused → (end : ℕ) → AreBelow end l.fn.slots.items
+          → AreBelow end l.slots.items × LieBelow end l.refs.items;
       placed : length l.refs.items ≡ length l.yielded;
       left : length l.slots.items + length l.yielded ≡ length l.fn.nodes.items;
       stamps : AreFrom l.to.first l.refs.items;

@@ -70,7 +70,8 @@ returns-else-is_err-clause-used g c = λ r.
 
 pub returns-then-is_err-clause-within : goal.returns-then-is_err-clause-within
 returns-then-is_err-clause-within g c = λ r.
-    stay_refused c.args.slots.now.items c.pop-slot.new.slots.items c.args.refs.now.items c.place_one-placed.new.refs.items
+    stay_refused c.args.slots.now.items c.pop-slot.new.slots.items c.args.refs.now.items
+    c.place_one-placed.new.refs.items
     c.pop-slot.result c.pop-slot.ensures (search rules)
 
 pub returns-else-is_err-clause-within : goal.returns-else-is_err-clause-within
@@ -79,5 +80,6 @@ returns-else-is_err-clause-within g c = λ r.
     let more = c.place_one-placed.new.refs.items in
     let placed : (at : Ref) × (more ≡ refs ++ at ∷ []) × (stamp_of at ≡ c.args.to.now.first + length refs)
     × (g.S.Slots.reused → slot_of at ≡ c.pop-slot.result) = search rules in
-    stay_placed c.args.slots.now.items c.pop-slot.new.slots.items refs more c.pop-slot.result placed.0 c.pop-slot.ensures
+    stay_placed c.args.slots.now.items c.pop-slot.new.slots.items refs more c.pop-slot.result placed.0
+    c.pop-slot.ensures
     placed.1 (placed.3 r)

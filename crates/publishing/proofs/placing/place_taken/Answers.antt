@@ -70,14 +70,16 @@ returns-in-Ok-clause-given g c r xs end took below =
     on_err_then c.place_drawn.result
     (c.place_drawn.ensures.given r xs (ap (λ (y : View). y.deeds) same ∙ took
     ∙ ap (λ (y : View). map deed.took y.taken ++ xs) (sym same)))
-    (λ (settled, withdrawn, split, freed). gives_placed c.args.shared.now.table.sizes.slots end count xs v c.args.seat.now _
+    (λ (settled, withdrawn, split, freed). gives_placed c.args.shared.now.table.sizes.slots end count xs v
+    c.args.seat.now _
     c.args.slots.items c.in-Ok.first contents (c.requires.taken r) below c.requires.slots
     (length-map c.nodes.result.now (renamed (child_from c.first-from.result)) ∙ ap length c.nodes.ensures.nodes) once (
       settled,
       withdrawn,
       ap (λ (y : View). y.taken) (sym same) ∙ split,
-      subst (λ n. AreFreed n (g.S.Slots.view c.place_drawn.new.seat).reached settled (drafted_slots settled withdrawn xs)
-          (g.S.Slots.view c.place_drawn.new.seat).deeds) (ap (λ (z : GroupId). z.table.sizes.slots) c.shared.view_is) freed,
+      subst (λ n. AreFreed n (g.S.Slots.view c.place_drawn.new.seat).reached settled
+          (drafted_slots settled withdrawn xs) (g.S.Slots.view c.place_drawn.new.seat).deeds)
+          (ap (λ (z : GroupId). z.table.sizes.slots) c.shared.view_is) freed,
     ))
 
 pub returns-in-Ok-clause-past : goal.returns-in-Ok-clause-past

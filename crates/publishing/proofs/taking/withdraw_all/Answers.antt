@@ -33,7 +33,8 @@ loop-slot-preserved g c =
       taken = left;
       used = λ r. let had = is.used r in (
         had.0 ++ x ∷ [],
-        uses_withdrawn first v u [] had.0 x had.1 (headed v u slots rest x c.in-Some.ensures.items (is.taken r) (left r))
+        uses_withdrawn first v u [] had.0 x had.1
+            (headed v u slots rest x c.in-Some.ensures.items (is.taken r) (left r))
             (ap (λ (w : View). w.deeds) (done.view r)),
       );
       kept = λ r. but_withdrawn first v u x (is.kept r) (done.view r);

@@ -11,7 +11,8 @@ pub loop-c-preserved : goal.loop-c-preserved
 loop-c-preserved c =
     let cs = chars c.args.name.now in
     let n = length c.loop-c.yielded in
-    let t = YieldsList-turn (YieldsList-from_chars c.args.name.now c.utf8.name cc) c.loop-c.yielded _ c.loop-c.yielded_by
+    let t = YieldsList-turn (YieldsList-from_chars c.args.name.now c.utf8.name cc) c.loop-c.yielded _
+    c.loop-c.yielded_by
     _ _ c.in-Some.c c.in-Some.is c.next.ensures.steps in
     ap₂ (λ s k. s ++ escaped_chars (drop k cs)) c.in_ok-push_escaped_char.ensures
     (length_push c.loop-c.yielded c.in-Some.c)

@@ -1,5 +1,5 @@
-use Rattle.std.proofs.Common.{◌≡◌, ◌⊎◌, ◌<◌, ℕ, ap, arith, length, sym, subst, refl, Option, Some, None, Result, Ok, Err}
-use Rattle.std.proofs.Common.{IfOk, IfErr}
+use Rattle.std.proofs.Common.{◌≡◌, ◌⊎◌, ◌<◌, ℕ, ap, arith, length, sym, subst, refl, Option, Some, None, Result, Ok}
+use Rattle.std.proofs.Common.{Err, IfOk, IfErr}
 use mathlib.Core.List.{IsPrefix}
 use Rattle.group_history.specs.declared.mutators.Ran.{Ran}
 use Rattle.group_history.specs.declared.mutators.Stop.{Stop}
@@ -23,7 +23,8 @@ use Rattle.map_nodes.proofs.nodes.OwnNode.put_root.Goals as goal
 
 -- what is answered where nothing is put
 not_put : (p q : Contents) (may : Ref → Type 0) (makes : Result Update Stop → Type 0) (stops : Stop → Type 0)
-    (key : Bytes) (n o : Seen) (why : PutRefused) (r : Result Ran Stop) → IsPrefix p q → IsTree (shown p n.pieces) → o ≡ n
+    (key : Bytes) (n o : Seen) (why : PutRefused) (r : Result Ran Stop) → IsPrefix p q
+    → IsTree (shown p n.pieces) → o ≡ n
     → IsUnput makes stops (value_in (shown p n.pieces) key) why → IsAnswer why r
     → IfOk r (λ ran. (u : Update) × makes (Ok u) × IsPutOr p q may key n o u ran)
 not_put p q may makes stops key n o (Stopped s) r pre tree e h is = subst (λ w. IfOk w (λ ran. (u : Update)
@@ -80,7 +81,8 @@ returns-in-Err-clause-put g c =
     let found = value_in (shown p c.args.self.now.pieces) c.args.key.now in
     let makes : Result Update Stop → Type 0 =
     λ r. Makes (λ f x y. g.F.FnOnce.post f (x, tt) y) c.args.change found r in
-    not_put p q (g.C.Chunks.places c.put.new.chunks) makes g.C.Chunks.stops c.args.key.now c.args.self.now c.put.new.self
+    not_put p q (g.C.Chunks.places c.put.new.chunks) makes g.C.Chunks.stops c.args.key.now
+    c.args.self.now c.put.new.self
     c.in-Err.refused c.answered.result c.put.ensures.grown.0 c.requires.tree c.in-Err.ensures.err c.in-Err.ensures.unput
     c.answered.ensures
 
@@ -91,8 +93,10 @@ returns-in-Err-put_full-clause-put g c =
     let found = value_in (shown p c.args.self.now.pieces) c.args.key.now in
     let makes : Result Update Stop → Type 0 =
     λ r. Makes (λ f x y. g.F.FnOnce.post f (x, tt) y) c.args.change found r in
-    not_put p q (g.C.Chunks.places c.put_full.new.chunks) makes g.C.Chunks.stops c.args.key.now c.args.self.now c.put_full.new.self
-    c.in-Err-put_full.refused c.answered-in-Err-put_full.result c.put_full.ensures.grown.0 c.requires.tree c.in-Err-put_full.ensures.err c.in-Err-put_full.ensures.unput
+    not_put p q (g.C.Chunks.places c.put_full.new.chunks) makes g.C.Chunks.stops c.args.key.now c.args.self.now
+    c.put_full.new.self
+    c.in-Err-put_full.refused c.answered-in-Err-put_full.result c.put_full.ensures.grown.0 c.requires.tree
+    c.in-Err-put_full.ensures.err c.in-Err-put_full.ensures.unput
     c.answered-in-Err-put_full.ensures
 
 pub returns-in-Err-clause-stopped : goal.returns-in-Err-clause-stopped
@@ -109,4 +113,5 @@ returns-in-Err-put_full-clause-stopped g c =
     let found = value_in (shown p c.args.self.now.pieces) c.args.key.now in
     let makes : Result Update Stop → Type 0 =
     λ r. Makes (λ f x y. g.F.FnOnce.post f (x, tt) y) c.args.change found r in
-    not_done makes g.C.Chunks.stops found c.in-Err-put_full.refused c.answered-in-Err-put_full.result c.in-Err-put_full.ensures.unput c.answered-in-Err-put_full.ensures
+    not_done makes g.C.Chunks.stops found c.in-Err-put_full.refused c.answered-in-Err-put_full.result
+    c.in-Err-put_full.ensures.unput c.answered-in-Err-put_full.ensures

@@ -33,8 +33,10 @@ finish-half-requires-clause-fits c =
     let deep : c.depth-depth.result + 1 ≡ c.args.child.value.depth + 1 = ap (λ n. n + 1)
     (c.depth-depth.ensures ∙ ap (λ (s : Seen). s.depth) c.deref.ensures) in
     subst (λ n. Fits n i c.lower_first.new.keys.texts (set c.in_ok-keys.kids.items i (Own kid)) c.args.half) (sym deep)
-    (subst (λ ks. Fits (c.args.child.value.depth + 1) i ks (set c.in_ok-keys.kids.items i (Own kid)) c.args.half) (sym now)
-    (subst (λ xs. Fits (c.args.child.value.depth + 1) i (lowered i lower (keys_of kids)) (set xs i (Own kid)) c.args.half)
+    (subst (λ ks. Fits (c.args.child.value.depth + 1) i ks (set c.in_ok-keys.kids.items i (Own kid)) c.args.half)
+    (sym now)
+    (subst (λ xs. Fits (c.args.child.value.depth + 1) i (lowered i lower (keys_of kids)) (set xs i (Own kid))
+    c.args.half)
     (sym items) (c.requires.fits.fits lower kid low refl)))
 
 pub returns : goal.returns

@@ -31,7 +31,8 @@ returns-in_err-updated-in-Placed-clause-stopped g c m h =
       | inl x ↦ inl x
       | inr y ↦ elim y [
         | inl x ↦ inr (inl x)
-        | inr f ↦ inr (inr (subst (λ w. Makes (λ f there made. g.F.FnOnce.post f (there, tt) made) c.args.change w (Err e)) v f))
+        | inr f ↦ inr
+            (inr (subst (λ w. Makes (λ f there made. g.F.FnOnce.post f (there, tt) made) c.args.change w (Err e)) v f))
       ]
     ])
 
@@ -42,7 +43,8 @@ returns-in-Own-clause-updated g c m h =
     let h' : option_and_then map_of_rows (shown p n.pieces) ≡ Some m = ap (root_map p) (sym c.in-Own.is) ∙ h in
     if_ok_so c.write.result c.write.ensures.put (λ ran z. (
       z.0,
-      subst (λ w. Makes (λ f there made. g.F.FnOnce.post f (there, tt) made) c.args.change w (Ok z.0)) (value_of_map (shown p n.pieces) m c.args.key.now h')
+      subst (λ w. Makes (λ f there made. g.F.FnOnce.post f (there, tt) made) c.args.change w (Ok z.0))
+          (value_of_map (shown p n.pieces) m c.args.key.now h')
           z.1,
       own_update p (g.C.Chunks.contents c.write.new.chunks) (g.C.Chunks.places c.write.new.chunks)
           c.args.self.now n c.write.new.self m c.args.key.now z.0 ran c.in-Own.is h z.2,
@@ -57,7 +59,8 @@ returns-in-Own-clause-stopped g c m h =
       | inl x ↦ inl x
       | inr y ↦ elim y [
         | inl x ↦ inr (inl x)
-        | inr f ↦ inr (inr (subst (λ w. Makes (λ f there made. g.F.FnOnce.post f (there, tt) made) c.args.change w (Err e))
+        | inr f ↦ inr
+            (inr (subst (λ w. Makes (λ f there made. g.F.FnOnce.post f (there, tt) made) c.args.change w (Err e))
             (value_of_map (shown p n.pieces) m c.args.key.now h') f))
       ]
     ])

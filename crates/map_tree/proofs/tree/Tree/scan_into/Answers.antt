@@ -43,7 +43,8 @@ returns-in_err-scan-in-Own-clause-begun g c m h =
     let p = g.C.Chunks.contents c.args.chunks.now in
     let e : option_and_then map_of_rows (shown p c.in-Own.node.pieces)
     ≡ Some m = ap (root_map p) (sym c.in-Own.is) ∙ h in
-    let r = err_from_is_err_and c.from_residual-in_err-scan-in-Own.result c.from_residual-in_err-scan-in-Own.ensures.1 in
+    let r = err_from_is_err_and c.from_residual-in_err-scan-in-Own.result
+    c.from_residual-in_err-scan-in-Own.ensures.1 in
     rw r.1
     (subst (HasBegun g.S.TakesRows.has c.args.sink.now c.scan.new.sink)
     (scan_of-map (shown p c.in-Own.node.pieces) m c.args.scan.now e) c.in_err-scan-in-Own.ensures.rows)

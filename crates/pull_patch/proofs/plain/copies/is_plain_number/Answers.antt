@@ -6,7 +6,8 @@ use Rattle.pull_patch.proofs.plain.copies.is_plain_number.Goals as goal
 
 pub returns-then-is_word : goal.returns-then-is_word
 returns-then-is_word c _ = subst IsPlainNumber
-    (sym ((bytes_eq-Decides c.args.text.now (48 ∷ [])).0 (sym c.is_word.ensures ∙ c.if-is_word.true))) IsPlainNumber-zero
+    (sym ((bytes_eq-Decides c.args.text.now (48 ∷ [])).0 (sym c.is_word.ensures ∙ c.if-is_word.true)))
+    IsPlainNumber-zero
 
 pub returns-in-Ok : goal.returns-in-Ok
 returns-in-Ok c _ =

@@ -25,6 +25,7 @@ returns-clause-read c =
     on_ok_weaker c.pass_value.result (λ done. record {
       tree = done.tree;
       reads = done.reads;
-      found = λ ms h. found_other c.args.found.now done.tree c.args.name.now ms (sym c.is_word.ensures ∙ c.if-is_word.false)
+      found = λ ms h. found_other c.args.found.now done.tree c.args.name.now ms
+          (sym c.is_word.ensures ∙ c.if-is_word.false)
           (sym c.is_word-2.ensures ∙ c.if-is_word-2.false) c.requires.other h;
     }) c.pass_value.ensures.read

@@ -26,9 +26,12 @@ invariant_of-reader c = let was = c.args.reader.now in
       own = t.own;
       bare = t.bare;
       low = t.low;
-      opens = λ r low high. either_way c.compare_exchange.result c.word-retired.result ∥ IsOpen c.compare_exchange.new.seat.me.0 r ∥₁
-          (λ e. still_open was.seat.me c.compare_exchange.new.seat.me _ was.bound (did.0 e).0 refl refl (λ j x h. h) was.opens r low high)
-          (λ ne. still_open was.seat.me c.compare_exchange.new.seat.me _ was.bound (did.1 ne).0 refl refl (λ j x h. h) was.opens r low high);
+      opens = λ r low high. either_way c.compare_exchange.result c.word-retired.result
+          ∥ IsOpen c.compare_exchange.new.seat.me.0 r ∥₁
+          (λ e. still_open was.seat.me c.compare_exchange.new.seat.me _ was.bound (did.0 e).0 refl refl
+          (λ j x h. h) was.opens r low high)
+          (λ ne. still_open was.seat.me c.compare_exchange.new.seat.me _ was.bound (did.1 ne).0 refl refl
+          (λ j x h. h) was.opens r low high);
     }
 
 pub returns-clause-table : goal.returns-clause-table

@@ -63,5 +63,6 @@ invariant_of-reader c = record {
   opens = λ r low high. let v : View = view c.loop-other.reader in
       let last : c.loop-other.other ≡ c.args.self.now.sizes.readers = omega arith in
       ∣ subst (λ n. (r : ℕ) → r ≤ c.loop-other.least → OpenTo n v r)
-      (last ∙ sym (ap (λ (z : Sizes). z.readers) c.loop-other.invariant.sizes)) c.loop-other.invariant.open_at r high ∣₁;
+      (last ∙ sym (ap (λ (z : Sizes). z.readers) c.loop-other.invariant.sizes))
+      c.loop-other.invariant.open_at r high ∣₁;
 }

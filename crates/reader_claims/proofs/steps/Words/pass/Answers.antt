@@ -63,7 +63,8 @@ pub returns-in-Some-scan_ahead-clause-moves : goal.returns-in-Some-scan_ahead-cl
 returns-in-Some-scan_ahead-clause-moves c = let old : View = view c.args.reader.now in
     let v : View = view c.open_below-bound.new.reader in let a : View = view c.scan_ahead.new.reader in
     let b : View = view c.scan_ahead-2.new.reader in
-    moves_moves old v b c.open_below-bound.ensures.moves (moves_moves v a b c.scan_ahead.ensures.moves c.scan_ahead-2.ensures.moves)
+    moves_moves old v b c.open_below-bound.ensures.moves
+    (moves_moves v a b c.scan_ahead.ensures.moves c.scan_ahead-2.ensures.moves)
 
 pub returns-clause-moves : goal.returns-clause-moves
 returns-clause-moves c = let old : View = view c.args.reader.now in let v : View = view c.open_below-bound.new.reader in

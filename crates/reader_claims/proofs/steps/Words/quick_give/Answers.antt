@@ -16,7 +16,8 @@ returns-then-r-eq0-clause-later c = later_self _
 pub give-requires-clause-open_at : goal.give-requires-clause-open_at
 give-requires-clause-open_at c =
     let some : 0 < c.args.r = omega (arith, c.if-r-eq0.false) in
-    opened (view c.args.reader.now) c.args.r (c.args.reader.now.opens c.args.r some (omega (arith, c.if-reader-r.false)))
+    opened (view c.args.reader.now) c.args.r
+    (c.args.reader.now.opens c.args.r some (omega (arith, c.if-reader-r.false)))
 
 pub returns-then-give-word-clause-moves : goal.returns-then-give-word-clause-moves
 returns-then-give-word-clause-moves c =

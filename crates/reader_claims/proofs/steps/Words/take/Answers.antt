@@ -30,8 +30,10 @@ invariant_of-reader c = let was = c.args.reader.now in
       bare = t.bare;
       low = t.low;
       opens = λ r low high. either_way c.compare_exchange.result 0 ∥ IsOpen c.compare_exchange.new.seat.me.0 r ∥₁
-          (λ e. still_open was.seat.me c.compare_exchange.new.seat.me _ was.bound (did.0 e).0.0 refl refl (λ j x h. h) was.opens r low high)
-          (λ ne. still_open was.seat.me c.compare_exchange.new.seat.me _ was.bound (did.1 ne).0.0 refl refl (λ j x h. h) was.opens r low high);
+          (λ e. still_open was.seat.me c.compare_exchange.new.seat.me _ was.bound (did.0 e).0.0 refl refl
+          (λ j x h. h) was.opens r low high)
+          (λ ne. still_open was.seat.me c.compare_exchange.new.seat.me _ was.bound (did.1 ne).0.0 refl refl
+          (λ j x h. h) was.opens r low high);
     }
 
 pub returns-clause-table : goal.returns-clause-table

@@ -3,7 +3,8 @@ use Rattle.serde_json.specs.View.{view, items_view, members_view}
 use Rattle.serde_json.proofs.Views.{Entry}
 use Rattle.rule_mutators.specs.Answers.{Refuses}
 use Rattle.rule_mutators.specs.Inside.Parts.{parts_behind}
-use Rattle.rule_mutators.specs.Reading.{two_said, field_said, fields_said, expression_said, name_said, item_at, member_at, ◌>>=◌}
+use Rattle.rule_mutators.specs.Reading.{two_said, field_said, fields_said, expression_said, name_said, item_at}
+use Rattle.rule_mutators.specs.Reading.{member_at, ◌>>=◌}
 use Rattle.rule_mutators.specs.Rules as rule
 use Rattle.rule_mutators.specs.Views.{expression_of}
 use Rattle.rule_mutators.proofs.Answering.{refuses_on}
@@ -13,7 +14,8 @@ use Rattle.rule_mutators.proofs.reading.expressions.+expression.Goals as goal
 
 pub read_two-returns-in_err-first : goal.read_two-returns-in_err-first
 read_two-returns-in_err-first t c =
-    let h : Refuses c.in_err-first.field-0.0 (two_said c.args.place.now (parts_behind c.args.place.now (items_view c.args.items.now)))
+    let h : Refuses c.in_err-first.field-0.0
+    (two_said c.args.place.now (parts_behind c.args.place.now (items_view c.args.items.now)))
     = first_refuses _ c.args.place.now c.args.items.now c.index-items-1.result
     (λ both e. both.1.said >>= (λ f. Ok (e, f))) c.if-items-ne3.false c.index-items-1.is c.in_err-first.ensures in
     search rules
@@ -31,7 +33,8 @@ read_two-returns-in_err-second t c =
 
 pub read_field-returns-in_err-of : goal.read_field-returns-in_err-of
 read_field-returns-in_err-of t c =
-    let h : Refuses c.in_err-of.field-0.0 (field_said c.args.place.now (parts_behind c.args.place.now (items_view c.args.items.now)))
+    let h : Refuses c.in_err-of.field-0.0
+    (field_said c.args.place.now (parts_behind c.args.place.now (items_view c.args.items.now)))
     = first_refuses _ c.args.place.now c.args.items.now c.index-items-1.result
     (λ both e. name_said (item_at c.args.place.now 2) both.1.value >>= (λ s. Ok (rule.field e s)))
     c.if-items-ne3.false c.index-items-1.is c.in_err-of.ensures in

@@ -8,7 +8,8 @@ use Rattle.rule_mutators.proofs.reading.expressions.+expression.Given as goal
 -- what was read, before what is left, is what all say
 abbrev pub invariant-read_all-loop-index : goal.invariant-read_all-loop-index
 invariant-read_all-loop-index l =
-    expressions_left l.place l.index (drop l.index l.items) l.all.items ≡ all_said (parts_behind l.place (items_view l.items))
+    expressions_left l.place l.index (drop l.index l.items) l.all.items
+    ≡ all_said (parts_behind l.place (items_view l.items))
 
 abbrev pub invariant-read_fields-loop-name : goal.invariant-read_fields-loop-name
 invariant-read_fields-loop-name l =

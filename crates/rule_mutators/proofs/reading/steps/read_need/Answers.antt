@@ -12,7 +12,8 @@ use Rattle.rule_mutators.proofs.reading.steps.read_need.Goals as goal
 
 pub returns-in_err-test : goal.returns-in_err-test
 returns-in_err-test c =
-    let h : Refuses c.in_err-test.field-0.0 (need_said c.args.place.now (parts_behind c.args.place.now (items_view c.args.items.now)))
+    let h : Refuses c.in_err-test.field-0.0
+    (need_said c.args.place.now (parts_behind c.args.place.now (items_view c.args.items.now)))
     = first_refuses _ c.args.place.now c.args.items.now c.index-items-1.result
     (λ both e. code_said (item_at c.args.place.now 2) both.1.value >>= (λ n. Ok (rule.need e n)))
     c.if-items-ne3.false c.index-items-1.is c.in_err-test.ensures in

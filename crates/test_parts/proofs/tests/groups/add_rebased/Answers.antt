@@ -67,7 +67,8 @@ add_replayed-requires-clause-tip c =
       refl,
       subst (λ (o : Option Tree). IfSome o (λ (tree : Tree).
           tree_map (with_nodes contents c.add_patched.new.draft.nodes) tree
-          ≡ Some (replayed script_means m c.as_slice-left.result.now))) c.in-Some.is (c.in_ok-found.ensures.left m basis.1),
+          ≡ Some (replayed script_means m c.as_slice-left.result.now))) c.in-Some.is
+          (c.in_ok-found.ensures.left m basis.1),
     )
 
 pub returns-clause-old : goal.returns-clause-old

@@ -251,7 +251,8 @@ housed-requires c =
     let h = subst (λ (w : Kids). Parted w c.insert_entry.new.keys.texts c.insert_entry.new.entries.items
     (Some (c.in-Some-insert_entry.upper_keys.texts, c.in-Some-insert_entry.upper.items))) q
     c.in-Some-insert_entry.ensures in
-    (room_opened (length keys) c.args.room c.opened-firsts.result (c.requires.room (subst IsSome (sym c.in-Some.is) refl))
+    (room_opened (length keys) c.args.room c.opened-firsts.result
+    (c.requires.room (subst IsSome (sym c.in-Some.is) refl))
     c.opened-firsts.ensures).home (omega (arith, h.2, p.whole, ap length back))
 
 pub insert_entry-requires-clause-pairs : goal.insert_entry-requires-clause-pairs
@@ -268,13 +269,16 @@ insert_entry-requires-clause-room c =
     (c.requires.keys_room (subst IsSome (sym c.in-Some.is) refl), c.requires.kids_room)
 
 pub insert_entry-requires-clause-spare_keys : goal.insert_entry-requires-clause-spare_keys
-insert_entry-requires-clause-spare_keys c = (room_opened (length c.args.keys.now.texts) c.args.room c.opened-firsts.result
+insert_entry-requires-clause-spare_keys c =
+    (room_opened (length c.args.keys.now.texts) c.args.room c.opened-firsts.result
     (c.requires.room (subst IsSome (sym c.in-Some.is) refl)) c.opened-firsts.ensures).empty.0
 
 pub insert_entry-requires-clause-spare_entries : goal.insert_entry-requires-clause-spare_entries
-insert_entry-requires-clause-spare_entries c = (room_opened (length c.args.keys.now.texts) c.args.room c.opened-firsts.result
+insert_entry-requires-clause-spare_entries c =
+    (room_opened (length c.args.keys.now.texts) c.args.room c.opened-firsts.result
     (c.requires.room (subst IsSome (sym c.in-Some.is) refl)) c.opened-firsts.ensures).empty.1
 
 pub insert_entry-requires-clause-spare_room : goal.insert_entry-requires-clause-spare_room
-insert_entry-requires-clause-spare_room c = (room_opened (length c.args.keys.now.texts) c.args.room c.opened-firsts.result
+insert_entry-requires-clause-spare_room c =
+    (room_opened (length c.args.keys.now.texts) c.args.room c.opened-firsts.result
     (c.requires.room (subst IsSome (sym c.in-Some.is) refl)) c.opened-firsts.ensures).spare

@@ -15,11 +15,13 @@ root_above-requires-clause-order c =
     let n = known (shown p (lower ++ half_pieces c.args.half)) c.requires.order.1 in
     let e : shown p (lower ++ upper) ≡ Some n.rows = ap (λ h. shown p (lower ++ half_pieces h)) (sym c.in-Some.is)
     ∙ n.is in
-    let half : IsHalf 1 c.args.node.value.depth (Some c.in-Some.half) = subst (IsHalf 1 c.args.node.value.depth) c.in-Some.is
+    let half : IsHalf 1 c.args.node.value.depth (Some c.in-Some.half) =
+    subst (IsHalf 1 c.args.node.value.depth) c.in-Some.is
     c.requires.half in
     let first = c.in_ok-first.first in
     let keys = c.behind-node.inside.keys.texts in
-    let pieces : body_pieces c.behind-node.inside.depth keys c.behind-node.inside.body ≡ lower = ap (λ (s : Seen). s.pieces)
+    let pieces : body_pieces c.behind-node.inside.depth keys c.behind-node.inside.body ≡ lower =
+    ap (λ (s : Seen). s.pieces)
     (c.behind-node.view_is ∙ c.deref.ensures) in
     let d = c.index-as_slice-0.result in
     let at : get_or keys 0 d ≡ first = ap (λ ks. get_or ks 0 d) (sym c.as_slice.ensures) ∙ sym c.index-as_slice-0.is

@@ -68,8 +68,10 @@ change_at-returns-clause-reached g t c =
           (finite.find (slice_cmp nat_cmp) key (rows_or w)) (Ok h.0)) rows h.1,
       subst (λ s. IsReached (g.C.Chunks.contents s) (g.C.Chunks.places s) copies as_trail k (chunk_depth p k)
           (rows_or (chunk_rows p k)) key h.0 r new.laying) (sym c.leave.ensures)
-          (subst (λ w. IsReached (g.C.Chunks.contents new.chunks) (g.C.Chunks.places new.chunks) copies as_trail k w (rows_or (chunk_rows p k)) key h.0 r new.laying) depth
-          (subst (λ w. IsReached (g.C.Chunks.contents new.chunks) (g.C.Chunks.places new.chunks) copies as_trail k (chunk_depth q k) (rows_or w) key h.0 r new.laying) rows h.2)),
+          (subst (λ w. IsReached (g.C.Chunks.contents new.chunks) (g.C.Chunks.places new.chunks) copies as_trail k w
+          (rows_or (chunk_rows p k)) key h.0 r new.laying) depth
+          (subst (λ w. IsReached (g.C.Chunks.contents new.chunks) (g.C.Chunks.places new.chunks) copies as_trail k
+          (chunk_depth q k) (rows_or w) key h.0 r new.laying) rows h.2)),
     ))
 
 pub change_at-returns-clause-stopped : goal.change_at-returns-clause-stopped
@@ -209,7 +211,8 @@ change_in-step_up-requires-clause-fits g t c =
     can_step q (g.C.Chunks.contents new.chunks) (g.C.Chunks.places new.chunks) c.args.down.now.copies
     c.args.down.now.as_trail key c.args.at below kids i r.0 c.in_ok-below-in-Inner.below new.laying w c.requires.known
     content c.change_at.ensures.grown.0 place b few big
-    (reached_as (g.C.Chunks.contents new.chunks) (g.C.Chunks.places new.chunks) deeper.copies (c.args.down.now.copies + 1)
+    (reached_as (g.C.Chunks.contents new.chunks) (g.C.Chunks.places new.chunks) deeper.copies
+    (c.args.down.now.copies + 1)
     deeper.as_trail c.args.down.now.as_trail (stamp_of below) (chunk_depth q (stamp_of below))
     (rows_or (chunk_rows q (stamp_of below))) deeper.key.now key r.0 c.in_ok-below-in-Inner.below new.laying
     c.below-deeper.ensures.copies c.below-deeper.ensures.trail c.below-deeper.ensures.key r.2)

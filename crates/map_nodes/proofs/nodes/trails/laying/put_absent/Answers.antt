@@ -17,7 +17,8 @@ returns-then-is_none c =
     let texts = c.in_ok-keys.keys.texts in
     let values = c.in_ok-keys.values in
     let is = c.in_ok-keys.ensures in
-    let made = made_longer c.args.down.now.copies rows key value texts values.items c.in_ok-keys.half none is.rows is.half
+    let made = made_longer c.args.down.now.copies rows key value texts values.items c.in_ok-keys.half none is.rows
+    is.half
     is.leaf.1 is.leaf.2 is.entries is.keys in
     let same : arc_value c.in_ok-keys-2.keys ≡ texts = c.in_ok-keys-2.ensures in
     let end : End = record { keys = c.in_ok-keys-2.keys; values = values } in (
@@ -49,7 +50,8 @@ returns c =
       value,
       refl,
       no_other _ value none,
-      subst (λ n. IsMadeLeaf c.args.down.now.copies rows key value n c.in_ok-keys.half) (sym (c.in_ok-boxed.ensures ∙ c.of_rows-node.ensures))
+      subst (λ n. IsMadeLeaf c.args.down.now.copies rows key value n c.in_ok-keys.half)
+          (sym (c.in_ok-boxed.ensures ∙ c.of_rows-node.ensures))
           (made_longer c.args.down.now.copies rows key value texts values c.in_ok-keys.half none is.rows is.half
           is.leaf.1 is.leaf.2 is.entries is.keys),
     )

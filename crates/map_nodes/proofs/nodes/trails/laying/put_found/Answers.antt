@@ -57,6 +57,7 @@ returns c key found =
       c.args.value,
       refl,
       value_differs _ there c.args.value c.eq.result is c.eq.ensures c.if-eq.false,
-      subst (λ n. IsMadeLeaf c.args.down.now.copies rows key c.args.value n None) (sym (c.in_ok-boxed.ensures ∙ c.into_node.ensures))
+      subst (λ n. IsMadeLeaf c.args.down.now.copies rows key c.args.value n None)
+          (sym (c.in_ok-boxed.ensures ∙ c.into_node.ensures))
           (made_replaced c.args.down.now.copies rows key c.args.value c.args.place c.in_ok-end.end o found end),
     )

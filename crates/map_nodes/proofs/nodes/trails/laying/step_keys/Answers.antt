@@ -1,5 +1,5 @@
-use Rattle.std.proofs.Common.{◌≡◌, ◌∙◌, ◌<◌, ℕ, zero, suc, true, List, [], ◌∷◌, Some, ap, arith, get_or, length, refl, rules}
-use Rattle.std.proofs.Common.{set, subst, sym}
+use Rattle.std.proofs.Common.{◌≡◌, ◌∙◌, ◌<◌, ℕ, zero, suc, true, List, [], ◌∷◌, Some, ap, arith, get_or, length, refl}
+use Rattle.std.proofs.Common.{rules, set, subst, sym}
 use Rattle.group_history.specs.Map.{Bytes}
 use Rattle.group_history.specs.Rows.{keys_of, AreKeys}
 use Rattle.map_chunks.proofs.AnswerLemmas.{if_ok_so}
