@@ -60,6 +60,7 @@ quiet (Some j) r (e ∷ es) h = by e (key_of e == suc j) (quiet (Some j) r es) h
         → (moved_from r (e ∷ es) ≡ r) ⊎ (length (cond b (e ∷ mine (suc j) es) (mine (suc j) es)) < length (e ∷ es))
     by e false rest h = inr (omega (arith, mine_short (suc j) es))
     by (v.Move m) true rest h = absurd cc
+    by (v.Opening o) true rest h = absurd cc
     by (v.Draft d) true rest h = elim (rest h) [ inl is ↦ inl is | inr less ↦ inr (omega (arith, less)) ]
 
 nothing_more : {A : Type 0} (xs ys : List A) → xs ++ ys ≡ xs → ys ≡ []

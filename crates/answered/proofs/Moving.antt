@@ -30,14 +30,14 @@ point_seen means old new pre opened same = record {
 
 -- and one that added a move directly before it
 pub point_moved : (means : Meanings) (old new : Known) (to : Ref) (change : Change) (log : List Entry)
-    → IsPrefix old.log log → new.log ≡ log ++ moved old.seat to (Some change) ∷ [] → IsOpened means new.log
-    → own new ≡ own old ++ moved old.seat to (Some change) ∷ [] → IsPoint means old new (Some change) log
+    → IsPrefix old.log log → new.log ≡ log ++ moved old.seat to change ∷ [] → IsOpened means new.log
+    → own new ≡ own old ++ moved old.seat to change ∷ [] → IsPoint means old new (Some change) log
 point_moved means old new to change log pre is opened once = record {
   to = to;
   since = pre;
   until = subst (λ w. IsPrefix w new.log) is (prefix_self new.log);
   legal = subst (λ w. IsLegal means (record_of w)) is opened.0.legal;
-  moves = ap (filter is_move) once ∙ filter-append is_move (own old) (moved old.seat to (Some change) ∷ []);
+  moves = ap (filter is_move) once ∙ filter-append is_move (own old) (moved old.seat to change ∷ []);
 }
 
 -- the state of a commit to which the head led is the state of the record there

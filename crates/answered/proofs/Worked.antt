@@ -59,7 +59,7 @@ between (z ∷ y ∷ zs) qs m is h = absurd (omega (arith, ap length h, length-a
 one_point : (book : Book) (log : List Entry)
     → IsPoint trial (seen book begun) (seen book raised) (Some raise) log → log ≡ pulled
 one_point book log is =
-    let m : Entry = moved (Some 0) is.to (Some raise) in
+    let m : Entry = moved (Some 0) is.to raise in
     let zs = is.since.0 in
     let qs = is.until.0 in
     let back : begun ++ (zs ++ m ∷ qs) ≡ raised = sym (append_assoc begun zs (m ∷ qs)) ∙

@@ -22,6 +22,7 @@ use Rattle.head_word.specs.Marks.{Known, own, others}
 abbrev pub is_move : Entry → Bool
 is_move (entry.Draft d) = false
 is_move (entry.Move m) = true
+is_move (entry.Opening o) = true
 
 -- the moves of the head that the mark's seat has added
 abbrev pub own_moves : Known → List Entry
@@ -30,7 +31,7 @@ own_moves m = filter is_move (own m)
 -- the move by which a seat makes a change, where there is one
 abbrev pub moves_for : Option ℕ → Ref → Option Change → List Entry
 moves_for seat to None = []
-moves_for seat to (Some c) = moved seat to (Some c) ∷ []
+moves_for seat to (Some c) = moved seat to c ∷ []
 
 -- A call that began when its caller knew `old` of the book, and ended when it knew `new`, has a point where the book
 -- was `log`: not before the call, and not after it. The change, where it made one, stands directly behind the point, as

@@ -24,16 +24,16 @@ use Rattle.answered.specs.Changes.{change_made, change_ended}
 abbrev pub seen : Book → List Entry → Known
 seen book log = known book log (Some 0)
 
--- a book that was just opened
+-- a book that was just opened for two seats
 abbrev pub begun : List Entry
-begun = opening (record { bits = 1 })
+begun = opening 2 (record { bits = 1 })
 
 -- a change that the caller made, and one that the seat 1 made
 abbrev pub ours : Change → Entry
-ours c = moved (Some 0) (record { bits = 2 }) (Some c)
+ours c = moved (Some 0) (record { bits = 2 }) c
 
 abbrev pub theirs : Change → Entry
-theirs c = moved (Some 1) (record { bits = 3 }) (Some c)
+theirs c = moved (Some 1) (record { bits = 3 }) c
 
 -- five is pulled, and then the mutation raises it
 abbrev pub five : Change

@@ -29,11 +29,11 @@ IsWon means old new change s = (log : List Entry) × IsPoint means old new (Some
 -- What is seen of the book ends in the move by which the seat went from the base to this commit.
 abbrev pub IsMove : Known → Known → Ref → Ref → Change → Type 0
 IsMove old new base to change = (log : List Entry) × IsPrefix old.log log × (last_move log ≡ base)
-    × (new.log ≡ log ++ moved old.seat to (Some change) ∷ [])
+    × (new.log ≡ log ++ moved old.seat to change ∷ [])
 
 -- the entries that a publishing adds to the book by this seat: the move, where the exchange was won
 abbrev pub added : Option ℕ → Ref → Change → Published → List Entry
-added by to change published.Won = moved by to (Some change) ∷ []
+added by to change published.Won = moved by to change ∷ []
 added by to change published.Lost = []
 
 -- The exchange was lost: the seat did not move the head, which is not at the base any more.

@@ -1,5 +1,5 @@
 //! The two steps of a call that have a point: a look at the head, and a move of it that is won.
-ghost use Rattle.std.specs.Prelude.{◌≡◌, ◌≢◌, ◌≤◌, ◌++◌, ◌∷◌, [], None, Some, IsSome, IfOk, IfErr};
+ghost use Rattle.std.specs.Prelude.{◌≡◌, ◌≢◌, ◌≤◌, ◌++◌, ◌∷◌, [], None, IsSome, IfOk, IfErr};
 ghost use mathlib.Core.List.{IsPrefix};
 ghost use Rattle.group_history.specs.Record.{after};
 ghost use Rattle.group_history.specs.State.{State};
@@ -47,7 +47,7 @@ pub fn publish_at<M: Means>(
     ensures won { (s : State) → IsBase M.means mark.old base s
         → IfOk result (λ _. IsWon M.means mark.old mark.new change.now s) }
     ensures goes { IfOk result (λ _. IsMove mark.old mark.new base new change.now) }
-    ensures once { IfOk result (λ _. own mark.new ≡ own mark.old ++ moved mark.old.seat new (Some change.now) ∷ []) }
+    ensures once { IfOk result (λ _. own mark.new ≡ own mark.old ++ moved mark.old.seat new change.now ∷ []) }
     ensures nothing { IfErr result (λ _. own mark.new ≡ own mark.old) }
     ensures own { IfErr result (λ _. own_moves mark.new ≡ own_moves mark.old) }
     ensures moved { IfErr result (λ _. last_move mark.new.log ≢ base) }

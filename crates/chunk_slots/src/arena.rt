@@ -53,7 +53,7 @@ fn places<M: Means>(alloc: Global, slots: u32, seen: &Sight<M>) -> Result<Vec<Sl
 }
 
 impl<M: Means> Arena<M> {
-    ghost use Rattle.std.specs.Prelude.{◌≡◌, ◌⊎◌, ◌-◌, ◌<◌, ◌≤◌, IfOk, IfErr};
+    ghost use Rattle.std.specs.Prelude.{◌≡◌, ℕ, ◌⊎◌, ◌-◌, ◌<◌, ◌≤◌, IfOk, IfErr};
     ghost use Rattle.group_history.specs.Refs.{max_slots};
     ghost use Rattle.reader_claims.specs.Counts.{Counts, Found, HasOldest, OnlyLooks, all_slots};
     ghost use Rattle.reader_claims.specs.Machine.{Moves};
@@ -92,7 +92,7 @@ impl<M: Means> Arena<M> {
     ) -> Result<Arena<M>, Refusal>
         requires slots { (claims.sizes.slots ≡ slots) × (slots ≤ max_slots) }
         requires both { (leaf < slots) × (commit < slots) }
-        requires log { (at : Reference) × (mark.now.log ≡ opening at) }
+        requires log { (seats : ℕ) × (at : Reference) × (mark.now.log ≡ opening seats at) }
         ensures claims { IfOk result (λ arena. arena.claims ≡ claims) }
         ensures book { IfOk result (λ arena. arena.book ≡ mark.now.book) }
         ensures err { IfErr result (λ e. (e ≡ refusal.NoMemory) ⊎ (e ≡ refusal.Busy)) }
@@ -118,7 +118,7 @@ impl<M: Means> Arena<M> {
         requires book { mark.now.book ≡ self.now.book }
         requires slots { self.now.claims.sizes.slots ≤ max_slots }
         requires both { (leaf < self.now.claims.sizes.slots) × (commit < self.now.claims.sizes.slots) }
-        requires log { (at : Reference) × (mark.now.log ≡ opening at) }
+        requires log { (seats : ℕ) × (at : Reference) × (mark.now.log ≡ opening seats at) }
         ensures { IfErr result (λ e. (e ≡ refusal.NoMemory) ⊎ (e ≡ refusal.Busy)) }
     {
         let lower = placed_leaf(alloc, mark)?;

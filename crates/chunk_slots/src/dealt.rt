@@ -1,5 +1,5 @@
 //! What an arena is opened with: the claims table and its seats, one of which places the opening's nodes.
-ghost use Rattle.std.specs.Prelude.{◌≡◌, ◌⊎◌, ◌+◌, ◌<◌, ◌≤◌, IfOk, IfErr, length, map};
+ghost use Rattle.std.specs.Prelude.{ℕ, ◌≡◌, ◌⊎◌, ◌+◌, ◌<◌, ◌≤◌, IfOk, IfErr, length, map};
 ghost use Rattle.std.specs.List.{All};
 ghost use Rattle.group_history.specs.Refs.{max_slots, max_seats};
 ghost use Rattle.group_history.specs.declared.refs.Ref.{Ref as Reference};
@@ -62,7 +62,7 @@ impl Dealt {
         mark: &Mark<M>,
     ) -> Result<(Arena<M>, Vec<ArenaSeat>), Refusal>
         requires slots { (self.claims.sizes.slots ≡ slots) × (slots ≤ max_slots) }
-        requires log { (at : Reference) × (mark.now.log ≡ opening at) }
+        requires log { (seats : ℕ) × (at : Reference) × (mark.now.log ≡ opening seats at) }
         ensures claims { IfOk result (λ made. made.0.claims ≡ self.claims) }
         ensures book { IfOk result (λ made. made.0.book ≡ mark.now.book) }
         ensures count { IfOk result (λ made. length made.1.items ≡ length self.others.items + 1) }

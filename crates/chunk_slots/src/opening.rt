@@ -1,6 +1,6 @@
 //! The two nodes that a group opens with: an empty leaf under the stamp 0, and the opening snapshot over
 //! it under the stamp 1.
-ghost use Rattle.std.specs.Prelude.{◌≡◌, ◌<◌, List, IfOk, IfErr, length};
+ghost use Rattle.std.specs.Prelude.{ℕ, ◌≡◌, ◌<◌, List, IfOk, IfErr, length};
 ghost use Rattle.std.specs.List.{All};
 ghost use Rattle.logbook.specs.Pages.{Book};
 ghost use Rattle.group_history.specs.Naming.{content_of, drafted_content};
@@ -44,7 +44,7 @@ fn opening_snapshot(alloc: Global, leaf: u32) -> Result<Node<Ref>, Refusal>
 
 /// The empty leaf, by a mark of a book that is new.
 pub(crate) fn placed_leaf<M: Means>(alloc: Global, mark: &Mark<M>) -> Result<Placed<M>, Refusal>
-    requires { (at : Reference) × (mark.now.log ≡ opening at) }
+    requires { (seats : ℕ) × (at : Reference) × (mark.now.log ≡ opening seats at) }
     ensures book { IfOk result (λ placed. placed.mark.book ≡ mark.now.book) }
     ensures stamp { IfOk result (λ placed. placed.stamp ≡ 0) }
     ensures err { IfErr result (λ e. e ≡ NoMemory) }
@@ -60,7 +60,7 @@ pub(crate) fn placed_snapshot<M: Means>(
     mark: &Mark<M>,
 ) -> Result<Placed<M>, Refusal>
     requires leaf { leaf < max_slots }
-    requires opened { (at : Reference) × (mark.now.log ≡ opening at) }
+    requires opened { (seats : ℕ) × (at : Reference) × (mark.now.log ≡ opening seats at) }
     ensures book { IfOk result (λ placed. placed.mark.book ≡ mark.now.book) }
     ensures stamp { IfOk result (λ placed. placed.stamp ≡ 1) }
     ensures err { IfErr result (λ e. e ≡ NoMemory) }

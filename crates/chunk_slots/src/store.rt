@@ -143,7 +143,7 @@ pub trait Store<M: Means>: Slots<M> {
         ensures seats { IfOk result (λ made. All
             (λ seat. (Self.home seat ≡ Self.serves made.0) × (Self.reused → IsIdle (Self.view seat))) made.1.items) }
         ensures marks { IfOk result (λ made. (slot : ℕ)
-            × (made.3.items ≡ seated made.2 (opening (opening_ref slot)) seats)
+            × (made.3.items ≡ seated made.2 (opening seats (opening_ref slot)) seats)
             × (Self.reused → IsOpening (Self.serves made.0).sizes (map Self.view made.1.items) slot)) }
         ensures err { IfErr result (λ e. (e ≡ refusal.NoMemory)
             ⊎ (Self.reused × ((e ≡ refusal.Busy) ⊎ (e ≡ refusal.Full)))) };

@@ -188,7 +188,7 @@ move_since old mid new base to c pre seat g = (
   g.0,
   prefix_trans old.log mid.log g.0 pre g.1,
   g.2,
-  subst (λ (s : Option ℕ). new.log ≡ g.0 ++ moved s to (Some c) ∷ []) seat g.3,
+  subst (λ (s : Option ℕ). new.log ≡ g.0 ++ moved s to c ∷ []) seat g.3,
 )
 
 -- what is drawn goes on as the book does
@@ -230,9 +230,9 @@ frees_since may more all n m old mid new (Some c) same g h a f = record {
   lost = f.lost;
   back = back_since may more all old mid new a.given f.given f.lost same g h a.back f.back;
   own = own_since old.mark mid.mark new.mark a.given f.given
-      (drafted_by old.mark.seat f.first f.contents ∷ moved old.mark.seat f.to (Some c) ∷ []) a.own
+      (drafted_by old.mark.seat f.first f.contents ∷ moved old.mark.seat f.to c ∷ []) a.own
       (subst (λ (s : Option ℕ). own new.mark ≡ own mid.mark ++ (entries_of f.given
-      ++ drafted_by s f.first f.contents ∷ moved s f.to (Some c) ∷ [])) same.later.seat f.own);
+      ++ drafted_by s f.first f.contents ∷ moved s f.to c ∷ [])) same.later.seat f.own);
   freed = subst (λ (t : ClaimsId). AreFreed t.sizes.slots new.view.reached (map slot_of f.left)
       (drafted (map slot_of f.refs) [] f.lost) new.view.deeds) same.table f.freed;
 }

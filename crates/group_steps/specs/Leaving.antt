@@ -83,7 +83,7 @@ pub record FreesFor (may : ℕ → Type 0) (count : ℕ) (old new : Seated) (cha
   pub lost : List Deed
   pub back : GivesBack may given old new lost
   pub own : own new.mark ≡ own old.mark ++ (entries_of given
-      ++ drafted_by old.mark.seat first contents ∷ moved old.mark.seat to (Some change) ∷ [])
+      ++ drafted_by old.mark.seat first contents ∷ moved old.mark.seat to change ∷ [])
   pub freed : AreFreed old.table.sizes.slots new.view.reached (map slot_of left) (drafted (map slot_of refs) [] lost)
       new.view.deeds
 

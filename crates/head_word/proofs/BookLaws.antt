@@ -83,7 +83,9 @@ drafted_at n (v.Draft e ∷ es) h (suc at) d is p lt =
       get_back dc (drawn es) r.0 ∙ r.3,
     )
 drafted_at n (v.Move m ∷ es) h zero d is p lt = absurd cc
+drafted_at n (v.Opening o ∷ es) h zero d is p lt = absurd cc
 drafted_at n (v.Move m ∷ es) h (suc at) d is p lt = drafted_at n es h at d is p lt
+drafted_at n (v.Opening o ∷ es) h (suc at) d is p lt = drafted_at n es h at d is p lt
 
 -- stamps of drafts behind n stamps are n or more
 drawn_behind : (n : ℕ) (log : List Entry) → numbered n log ≡ true → (at : ℕ) (d : DraftEntry)
@@ -102,7 +104,9 @@ drawn_behind n (v.Draft e ∷ es) h (suc at) d is = omega (
       (both (e.first == n) (numbered (n + length e.contents) es) h).1 at d is,
 )
 drawn_behind n (v.Move m ∷ es) h zero d is = absurd cc
+drawn_behind n (v.Opening o ∷ es) h zero d is = absurd cc
 drawn_behind n (v.Move m ∷ es) h (suc at) d is = drawn_behind n es h at d is
+drawn_behind n (v.Opening o ∷ es) h (suc at) d is = drawn_behind n es h at d is
 
 -- a draft before another ends before the other's first stamp
 apart : (n : ℕ) (log : List Entry) → numbered n log ≡ true → (at bt : ℕ) (d e : DraftEntry) → IsDraftAt log at d
@@ -122,7 +126,9 @@ apart n (v.Draft x ∷ es) h zero (suc bt) d e is ie lt =
 apart n (v.Draft x ∷ es) h (suc at) (suc bt) d e is ie lt = apart (n + length x.contents) es
     (both (x.first == n) (numbered (n + length x.contents) es) h).1 at bt d e is ie (omega (arith, lt))
 apart n (v.Move m ∷ es) h zero (suc bt) d e is ie lt = absurd cc
+apart n (v.Opening o ∷ es) h zero (suc bt) d e is ie lt = absurd cc
 apart n (v.Move m ∷ es) h (suc at) (suc bt) d e is ie lt = apart n es h at bt d e is ie (omega (arith, lt))
+apart n (v.Opening o ∷ es) h (suc at) (suc bt) d e is ie lt = apart n es h at bt d e is ie (omega (arith, lt))
 
 ordered : (a b : ℕ) → (a < b) ⊎ ((a ≡ b) ⊎ (b < a))
 ordered zero zero = inr (inl refl)

@@ -1,11 +1,10 @@
 -- How a book grows.
-use Rattle.std.proofs.Common.{◌≡◌, ℕ, suc, ◌+◌, ◌<◌, ◌≤◌, ◌==◌, ◌&&◌, Bool, true, false, List, [], ◌∷◌, ◌++◌, map}
-use Rattle.std.proofs.Common.{length, All, slice_index_or, Some, None, Option, refl, ap, sym, ◌∙◌, subst, arith}
+use Rattle.std.proofs.Common.{◌≡◌, ℕ, zero, suc, ◌+◌, ◌<◌, ◌≤◌, ◌==◌, ◌&&◌, Bool, true, false, List, [], ◌∷◌, ◌++◌, map}
+use Rattle.std.proofs.Common.{length, All, slice_index_or, refl, ap, sym, ◌∙◌, subst, arith}
 use Rattle.std.proofs.Common.{append_assoc, length-append}
 use Rattle.std.proofs.lemmas.List.{length-map}
-use Rattle.std.proofs.lemmas.List.Elements.{All-map}
+use Rattle.std.proofs.lemmas.List.Elements.{All-map, All-append}
 use Rattle.group_history.specs.declared.refs.Ref.{Ref}
-use Rattle.group_history.specs.declared.changes.Change.{Change}
 use Rattle.group_history.specs.declared.nodes.Chunk.TheVariants.{Leaf, Inner}
 use Rattle.group_history.specs.declared.nodes.CommitKind.{CommitKind}
 use Rattle.group_history.specs.declared.nodes.CommitKind.TheVariants.{Snapshot, Over}
@@ -22,29 +21,27 @@ use Rattle.group_history.specs.State.{State}
 use Rattle.group_history.proofs.Spellings.{version-stays}
 use Rattle.head_word.specs.declared.entry.Entry.{Entry}
 use Rattle.head_word.specs.declared.entry.Entry.TheVariants as v
-use Rattle.head_word.specs.Books.{drafted_contents, drawn, next_stamp, numbered, moved_from, with_change, record_of}
-use Rattle.head_word.specs.Books.{AreOrdered, StartsOpened, IsBefore, AreAfter}
+use Rattle.head_word.specs.Books.{drafted_contents, drawn, next_stamp, numbered, moved_from, record_of, seats_of}
+use Rattle.head_word.specs.Books.{AreOrdered, StartsOpened, IsBySeat, AreBySeats, IsBefore, AreAfter}
 
 pub drawn_more : (xs ys : List Entry) → drawn (xs ++ ys) ≡ drawn xs ++ drawn ys
 drawn_more [] ys = refl
 drawn_more (v.Draft d ∷ xs) ys = ap (λ w. drafted_contents d.first d.contents ++ w) (drawn_more xs ys) ∙ sym
     (append_assoc (drafted_contents d.first d.contents) (drawn xs) (drawn ys))
 drawn_more (v.Move m ∷ xs) ys = drawn_more xs ys
+drawn_more (v.Opening o ∷ xs) ys = drawn_more xs ys
 
 pub moved_more : (r : Ref) (xs ys : List Entry) → moved_from r (xs ++ ys) ≡ moved_from (moved_from r xs) ys
 moved_more r [] ys = refl
 moved_more r (v.Draft d ∷ xs) ys = moved_more r xs ys
 moved_more r (v.Move m ∷ xs) ys = moved_more m.to xs ys
-
-with_more : (o : Option Change) (cs ds : List Change) → with_change o (cs ++ ds) ≡ with_change o cs ++ ds
-with_more None cs ds = refl
-with_more (Some c) cs ds = refl
+moved_more r (v.Opening o ∷ xs) ys = moved_more o.to xs ys
 
 pub record_more : (xs ys : List Entry) → record_of (xs ++ ys) ≡ record_of xs ++ record_of ys
 record_more [] ys = refl
 record_more (v.Draft d ∷ xs) ys = record_more xs ys
-record_more (v.Move m ∷ xs) ys = ap (with_change m.change) (record_more xs ys) ∙ with_more m.change
-    (record_of xs) (record_of ys)
+record_more (v.Move m ∷ xs) ys = ap (λ w. m.change ∷ w) (record_more xs ys)
+record_more (v.Opening o ∷ xs) ys = record_more xs ys
 
 and_assoc : (a b c : Bool) → (a && (b && c)) ≡ ((a && b) && c)
 and_assoc true b c = refl
@@ -64,6 +61,7 @@ numbered_more n (v.Draft d ∷ xs) ys =
     (λ k. numbered (n + length d.contents) xs && numbered k ys) k)
     ∙ and_assoc (d.first == n) (numbered (n + length d.contents) xs) (numbered (n + length (dc ++ drawn xs)) ys)
 numbered_more n (v.Move m ∷ xs) ys = numbered_more n xs ys
+numbered_more n (v.Opening o ∷ xs) ys = numbered_more n xs ys
 
 pub ordered_more : (n : ℕ) (xs ys : Contents) → AreOrdered n xs → AreOrdered (n + length xs) ys
     → AreOrdered n (xs ++ ys)
@@ -115,11 +113,34 @@ pub spells_more : (means : Meanings) (xs ys : List Entry) (stamp : ℕ) (s : Sta
 spells_more means xs ys stamp s h = subst (λ w. Spells means w stamp s) (sym (drawn_more xs ys))
     (version-stays (drawn xs) (drawn ys) stamp (version_of means s) h)
 
+one_of : {A : Type 0} (P : A → Type 0) (x : A) → P x → All P (x ∷ [])
+one_of P x is zero d lt = is
+one_of P x is (suc k) d lt = absurd (omega (arith, lt))
+
 pub starts_more : (xs ys : List Entry) → StartsOpened xs → StartsOpened (xs ++ ys)
 starts_more [] ys h = absurd cc
 starts_more (x ∷ []) ys h = absurd cc
 starts_more (x ∷ v.Draft d ∷ xs) ys h = absurd cc
-starts_more (x ∷ v.Move m ∷ xs) ys h = h
+starts_more (x ∷ v.Move m ∷ xs) ys h = absurd cc
+starts_more (x ∷ v.Opening o ∷ xs) ys h = h
+
+-- a book that is opened stays so for as many seats
+pub seats_more : (xs ys : List Entry) → StartsOpened xs → seats_of (xs ++ ys) ≡ seats_of xs
+seats_more [] ys h = absurd cc
+seats_more (x ∷ []) ys h = absurd cc
+seats_more (x ∷ v.Draft d ∷ xs) ys h = absurd cc
+seats_more (x ∷ v.Move m ∷ xs) ys h = absurd cc
+seats_more (x ∷ v.Opening o ∷ xs) ys h = refl
+
+-- and an entry by one of its seats may be added
+pub seats_added : (xs : List Entry) (e : Entry) → StartsOpened xs → AreBySeats (seats_of xs) xs
+    → IsBySeat (seats_of xs) e → AreBySeats (seats_of (xs ++ e ∷ [])) (xs ++ e ∷ [])
+seats_added [] e h all is = absurd cc
+seats_added (x ∷ []) e h all is = absurd cc
+seats_added (x ∷ v.Draft d ∷ xs) e h all is = absurd cc
+seats_added (x ∷ v.Move m ∷ xs) e h all is = absurd cc
+seats_added (x ∷ v.Opening o ∷ xs) e h all is = All-append (IsBySeat o.seats) xs (e ∷ []) all
+    (one_of (IsBySeat o.seats) e is)
 
 pub next_more : (xs ys : List Entry) → next_stamp (xs ++ ys) ≡ next_stamp xs + length (drawn ys)
 next_more xs ys = ap length (drawn_more xs ys) ∙ length-append (drawn xs) (drawn ys)

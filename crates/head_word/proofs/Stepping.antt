@@ -31,14 +31,14 @@ use Rattle.head_word.specs.declared.entry.Answer.{Answer}
 use Rattle.head_word.specs.declared.entry.Entry.{Entry}
 use Rattle.head_word.specs.declared.entry.Entry.TheVariants as v
 use Rattle.head_word.specs.Books.{drafted_contents, drawn, next_stamp, last_move, nowhere, record_of, AreOrdered}
-use Rattle.head_word.specs.Books.{IsBook, drafted, moved, opening, StartsOpened, IsOpened, IsBefore}
-use Rattle.head_word.specs.Books.{AreAfter, IsChangeFrom}
+use Rattle.head_word.specs.Books.{IsBook, drafted, moved, opened, opening, opened_at, seats_of, StartsOpened, IsBySeat}
+use Rattle.head_word.specs.Books.{IsOpened, IsBefore, AreAfter, IsChangeFrom}
 use Rattle.head_word.specs.Tallies.{key_of, count}
 use Rattle.head_word.specs.Rules.{head_says, drafts_say, FitsOpened, Fits, IsKept}
 use Rattle.head_word.specs.Inside.Parts.{Trades}
 use Rattle.head_word.specs.Inside.Steps.{tells, answer, Counts, Exchanges, Opens}
 use Rattle.head_word.proofs.Books.{drawn_more, moved_more, record_more, length-drafted, numbered_more, ordered_more}
-use Rattle.head_word.proofs.Books.{drafted_ordered, spells_more, starts_more, next_more}
+use Rattle.head_word.proofs.Books.{drafted_ordered, spells_more, starts_more, seats_more, seats_added, next_more}
 use Rattle.head_word.proofs.Counting.{count_more, count_other, count_starts}
 
 book_draft : (means : Meanings) (log : List Entry) (by : Option ℕ) (contents : List (Node Child)) → IsBook means log
@@ -69,9 +69,9 @@ book_draft means log by contents b before room =
 book_move : (means : Meanings) (log : List Entry) (by : Option ℕ) (to : Ref) (change : Change) → IsBook means log
     → IsAccepted means (after (record_of log)) change
     → Spells means (drawn log) (stamp_of to) (after_change (after (record_of log)) change)
-    → IsBook means (log ++ moved by to (Some change) ∷ [])
+    → IsBook means (log ++ moved by to change ∷ [])
 book_move means log by to change b may spells =
-    let e = moved by to (Some change) in
+    let e = moved by to change in
     let rec : record_of log ++ change ∷ [] ≡ record_of (log ++ e ∷ []) = sym (record_more log (e ∷ [])) in
     let state : after_change (after (record_of log)) change
     ≡ after (record_of (log ++ e ∷ [])) = sym (after-push (record_of log) change) ∙ ap after rec in
@@ -89,6 +89,15 @@ book_move means log by to change b may spells =
 -- a book that begins with an opened one is opened
 pub starts_from : (v log : List Entry) → IsPrefix v log → StartsOpened v → StartsOpened log
 starts_from v log pre h = subst StartsOpened pre.1 (starts_more v pre.0 h)
+
+-- for as many seats
+pub seats_from : (v log : List Entry) → IsPrefix v log → StartsOpened v → seats_of log ≡ seats_of v
+seats_from v log pre h = sym (ap seats_of pre.1) ∙ seats_more v pre.0 h
+
+-- so an entry by one of the seats of a beginning may be added to the book
+by_from : (v log : List Entry) (e : Entry) → IsPrefix v log → StartsOpened v → IsBySeat (seats_of v) e
+    → IsBySeat (seats_of log) e
+by_from v log e pre h is = subst (λ (n : ℕ). IsBySeat n e) (sym (seats_from v log pre h)) is
 
 pub spells_from : (means : Meanings) (v log : List Entry) (stamp : ℕ) (s : State) → IsPrefix v log
     → Spells means (drawn v) stamp s → Spells means (drawn log) stamp s
@@ -109,21 +118,22 @@ not_both (Some (segment t)) s w p q = absurd cc
 not_both (Some (version t k)) s w p q = absurd cc
 
 -- a book that is opened begins with what it opened with
-pub starts_with : (log : List Entry) → StartsOpened log → (r : Ref) × IsPrefix (opening r) log
+pub starts_with : (log : List Entry) → StartsOpened log → IsPrefix (opening (seats_of log) (opened_at log)) log
 starts_with [] h = absurd cc
 starts_with (x ∷ []) h = absurd cc
 starts_with (x ∷ v.Draft d ∷ xs) h = absurd cc
-starts_with (x ∷ v.Move m ∷ xs) h = (m.to, (xs, sym (ap (λ w. w ++ xs) h)))
+starts_with (x ∷ v.Move m ∷ xs) h = absurd cc
+starts_with (x ∷ v.Opening o ∷ xs) h = (xs, sym (ap (λ w. w ++ xs) h))
 
 -- stamp 0 is a leaf and no commit
 no_commit : (means : Meanings) (log : List Entry) (s : State) → StartsOpened log → Spells means (drawn log) 0 s → ⊥
 no_commit means log s starts h =
     let begun = starts_with log starts in
+    let first = opening (seats_of log) (opened_at log) in
     let leaf : Segment = record { depth = 1; rows = [] } in
-    let all : drawn (opening begun.0) ++ drawn begun.1.0
-    ≡ drawn log = sym (drawn_more (opening begun.0) begun.1.0) ∙ ap drawn begun.1.1 in
+    let all : drawn first ++ drawn begun.0 ≡ drawn log = sym (drawn_more first begun.0) ∙ ap drawn begun.1 in
     let here : segment_at (drawn log) 0 ≡ Some leaf = subst (λ cs. segment_at cs 0 ≡ Some leaf) all
-    (segment-stays (drawn (opening begun.0)) (drawn begun.1.0) 0 leaf refl) in
+    (segment-stays (drawn first) (drawn begun.0) 0 leaf refl) in
     not_both (answer_at (spelled (drawn log)) 0) leaf (version_of means s) here h
 
 -- so the head word of an opened book isn't 0
@@ -244,13 +254,14 @@ after_from v log contents pre h = after_more (next_stamp v) (next_stamp log) 0 c
     (omega (arith, sym (ap next_stamp pre.1) ∙ next_more v pre.0)) h
 
 draft_goes : (means : Meanings) (v log : List Entry) (by : Option ℕ) (contents : List (Node Child)) (old h d : ℕ)
-    → IsPrefix v log → AreAfter (next_stamp v) 0 contents → FitsOpened means h d log
+    → IsPrefix v log → StartsOpened v → IsBySeat (seats_of v) (drafted by old contents)
+    → AreAfter (next_stamp v) 0 contents → FitsOpened means h d log
     → old + length contents ≤ stamps → (b : Bool) → (d == old) ≡ b
     → Goes (IsKept means) shown (Trades (drafted by old contents)) 1 (v, (no_nib, None))
     (λ n. either (n == old) (old + length contents) n)
     (tells (Exchanges drafts_say means) (step 1 old (old + length contents) (drafted by old contents))
     (v, (no_nib, None))) ((h, true) ∷ (d, true) ∷ []) log
-draft_goes means v log by contents old h d pre before fits room true is =
+draft_goes means v log by contents old h d pre starts seat before fits room true is =
     let at : next_stamp log ≡ old = sym fits.drafts_are ∙ eqb-true d old is in
     let e = drafted by old contents in
     let n : Answer = answer (count (key_of e) log) (count (key_of e) (log ++ e ∷ [])) in
@@ -258,6 +269,7 @@ draft_goes means v log by contents old h d pre before fits room true is =
     let book' : IsBook means (log ++ e ∷ []) = subst (λ (k : ℕ). IsBook means (log ++ drafted by k contents ∷ [])) at
     (book_draft means log by contents fits.opened.0 (after_from v log contents pre before) room') in
     let starts' : StartsOpened (log ++ e ∷ []) = starts_more log (e ∷ []) fits.opened.1 in
+    let seats' = seats_added log e fits.opened.1 fits.opened.2 (by_from v log e pre starts seat) in
     let last : h ≡ (last_move (log ++ e ∷ [])).bits = fits.head_is ∙ sym
     (ap (λ (r : Ref). r.bits) (moved_more nowhere log (e ∷ []))) in
     let next : old + length contents ≡ next_stamp (log ++ e ∷ []) = omega (
@@ -276,16 +288,16 @@ draft_goes means v log by contents old h d pre before fits room true is =
         head = h;
         drafts = old + length contents;
         words = ap (λ (k : ℕ). (h, true) ∷ (k, true) ∷ []) d';
-        fits = inl (record { opened = (book', starts'); head_is = last; drafts_are = next });
+        fits = inl (record { opened = (book', starts', seats'); head_is = last; drafts_are = next });
       },
       inr (n, refl, refl, trades_more e log),
       record {
-        opened = (book', starts');
+        opened = (book', starts', seats');
         outcome = rw is
             (record { log = log; seen = pre; opened = fits.opened; word = at; added = refl; counted = refl });
       },
     )
-draft_goes means v log by contents old h d pre before fits room false is =
+draft_goes means v log by contents old h d pre starts seat before fits room false is =
     let e = drafted by old contents in
     let n : Answer = answer (count (key_of e) (log ++ [])) (count (key_of e) (log ++ [])) in
     let d' : either (d == old) (old + length contents) d ≡ d = rw is refl in (
@@ -303,12 +315,13 @@ draft_goes means v log by contents old h d pre before fits room false is =
 
 -- whatever the book is, the exchange adds the draft, or finds that other stamps were drawn
 pub draft_moves : (means : Meanings) (v : List Entry) (by : Option ℕ) (contents : List (Node Child)) (old : ℕ)
-    → StartsOpened v → AreAfter (next_stamp v) 0 contents → old + length contents ≤ stamps
+    → StartsOpened v → IsBySeat (seats_of v) (drafted by old contents) → AreAfter (next_stamp v) 0 contents
+    → old + length contents ≤ stamps
     → Moves (IsKept means) shown (Trades (drafted by old contents)) 1 (v, (no_nib, None))
     (λ n. either (n == old) (old + length contents) n)
     (tells (Exchanges drafts_say means) (step 1 old (old + length contents) (drafted by old contents))
     (v, (no_nib, None)))
-draft_moves means v by contents old starts before room cs log kept pre away =
+draft_moves means v by contents old starts seat before room cs log kept pre away =
     let fits = fits_opened means v log kept.head kept.drafts pre starts kept.fits in
     let P : List Cell → Type 0 = λ c. (1 < length c) × ((cell c 1).1 ≡ true)
     × Goes (IsKept means) shown (Trades (drafted by old contents)) 1 (v, (no_nib, None))
@@ -318,20 +331,22 @@ draft_moves means v by contents old starts before room cs log kept pre away =
     subst P (sym kept.words) (
       omega arith,
       refl,
-      draft_goes means v log by contents old kept.head kept.drafts pre before fits room (kept.drafts == old) refl,
+      draft_goes means v log by contents old kept.head kept.drafts pre starts seat before fits room
+          (kept.drafts == old) refl,
     )
 
 move_goes : (means : Meanings) (v log : List Entry) (by : Option ℕ) (base to : Ref) (change : Change) (h d : ℕ)
-    → IsPrefix v log → IsChangeFrom means (drawn v) base to change → FitsOpened means h d log
+    → IsPrefix v log → StartsOpened v → IsBySeat (seats_of v) (moved by to change)
+    → IsChangeFrom means (drawn v) base to change → FitsOpened means h d log
     → (b : Bool) → (h == base.bits) ≡ b
-    → Goes (IsKept means) shown (Trades (moved by to (Some change))) 0 (v, (no_nib, None))
+    → Goes (IsKept means) shown (Trades (moved by to change)) 0 (v, (no_nib, None))
     (λ n. either (n == base.bits) to.bits n)
-    (tells (Exchanges head_says means) (step 0 base.bits to.bits (moved by to (Some change))) (v, (no_nib, None)))
+    (tells (Exchanges head_says means) (step 0 base.bits to.bits (moved by to change)) (v, (no_nib, None)))
     ((h, true) ∷ (d, true) ∷ []) log
-move_goes means v log by base to change h d pre follows fits true is =
+move_goes means v log by base to change h d pre starts seat follows fits true is =
     let at : h ≡ base.bits = eqb-true h base.bits is in
     let last : (last_move log).bits ≡ base.bits = sym fits.head_is ∙ at in
-    let e = moved by to (Some change) in
+    let e = moved by to change in
     let n : Answer = answer (count (key_of e) log) (count (key_of e) (log ++ e ∷ [])) in
     let state : State = after (record_of log) in
     let here : Spells means (drawn log) (stamp_of base) follows.state = spells_from means v log
@@ -345,6 +360,7 @@ move_goes means v log by base to change h d pre follows fits true is =
     (spells_from means v log (stamp_of to) (after_change follows.state change) pre follows.then) in
     let book' : IsBook means (log ++ e ∷ []) = book_move means log by to change fits.opened.0 may then in
     let starts' : StartsOpened (log ++ e ∷ []) = starts_more log (e ∷ []) fits.opened.1 in
+    let seats' = seats_added log e fits.opened.1 fits.opened.2 (by_from v log e pre starts seat) in
     let goes : (last_move (log ++ e ∷ [])).bits
     ≡ to.bits = ap (λ (r : Ref). r.bits) (moved_more nowhere log (e ∷ [])) in
     let h' : either (h == base.bits) to.bits h ≡ to.bits = rw is refl in
@@ -358,17 +374,17 @@ move_goes means v log by base to change h d pre follows fits true is =
         head = to.bits;
         drafts = d;
         words = ap (λ (k : ℕ). (k, true) ∷ (d, true) ∷ []) h';
-        fits = inl (record { opened = (book', starts'); head_is = sym goes; drafts_are = next });
+        fits = inl (record { opened = (book', starts', seats'); head_is = sym goes; drafts_are = next });
       },
       inr (n, refl, refl, trades_more e log),
       record {
-        opened = (book', starts');
+        opened = (book', starts', seats');
         outcome = rw is
             (record { log = log; seen = pre; opened = fits.opened; word = last; added = refl; counted = refl });
       },
     )
-move_goes means v log by base to change h d pre follows fits false is =
-    let e = moved by to (Some change) in
+move_goes means v log by base to change h d pre starts seat follows fits false is =
+    let e = moved by to change in
     let n : Answer = answer (count (key_of e) (log ++ [])) (count (key_of e) (log ++ [])) in
     let h' : either (h == base.bits) to.bits h ≡ h = rw is refl in (
       keeps,
@@ -385,25 +401,26 @@ move_goes means v log by base to change h d pre follows fits false is =
 
 -- whatever the book is, the exchange adds the move directly after the one expected, or finds another last move
 pub move_moves : (means : Meanings) (v : List Entry) (by : Option ℕ) (base to : Ref) (change : Change) → StartsOpened v
-    → IsChangeFrom means (drawn v) base to change
-    → Moves (IsKept means) shown (Trades (moved by to (Some change))) 0 (v, (no_nib, None))
+    → IsBySeat (seats_of v) (moved by to change) → IsChangeFrom means (drawn v) base to change
+    → Moves (IsKept means) shown (Trades (moved by to change)) 0 (v, (no_nib, None))
     (λ n. either (n == base.bits) to.bits n)
-    (tells (Exchanges head_says means) (step 0 base.bits to.bits (moved by to (Some change))) (v, (no_nib, None)))
-move_moves means v by base to change starts follows cs log kept pre away =
+    (tells (Exchanges head_says means) (step 0 base.bits to.bits (moved by to change)) (v, (no_nib, None)))
+move_moves means v by base to change starts seat follows cs log kept pre away =
     let fits = fits_opened means v log kept.head kept.drafts pre starts kept.fits in
     let P : List Cell → Type 0 = λ c. (0 < length c) × ((cell c 0).1 ≡ true)
-    × Goes (IsKept means) shown (Trades (moved by to (Some change))) 0 (v, (no_nib, None))
+    × Goes (IsKept means) shown (Trades (moved by to change)) 0 (v, (no_nib, None))
     (λ n. either (n == base.bits) to.bits n)
-    (tells (Exchanges head_says means) (step 0 base.bits to.bits (moved by to (Some change)))
+    (tells (Exchanges head_says means) (step 0 base.bits to.bits (moved by to change))
     (v, (no_nib, None))) c log in
     subst P (sym kept.words) (
       omega arith,
       refl,
-      move_goes means v log by base to change kept.head kept.drafts pre follows fits (kept.head == base.bits) refl,
+      move_goes means v log by base to change kept.head kept.drafts pre starts seat follows fits
+          (kept.head == base.bits) refl,
     )
 
-opening_counts : (r : Ref) (k : ℕ) → k ≢ 0 → count k (opening r) ≡ 0
-opening_counts r k other = elim (eqb_tells 0 k) [
+opening_counts : (n : ℕ) (r : Ref) (k : ℕ) → k ≢ 0 → count k (opening n r) ≡ 0
+opening_counts n r k other = elim (eqb_tells 0 k) [
   | inl is ↦ absurd (other (sym is.1))
   | inr not ↦ rw not.0 refl
 ]
@@ -413,15 +430,15 @@ opening_child zero d lt = omega arith
 opening_child (suc k) d lt = absurd (omega (arith, lt))
 
 -- the opening commit spells the opening state
-pub opening_spells : (means : Meanings) (r : Ref) → Spells means (drawn (opening r)) 1 (after [])
-opening_spells means r = ap (λ (m : Entries). Some
+pub opening_spells : (means : Meanings) (n : ℕ) (r : Ref) → Spells means (drawn (opening n r)) 1 (after [])
+opening_spells means n r = ap (λ (m : Entries). Some
     (record { state = pulled_state m null_cookie finite.empty; read = m })) empty_map
 
 -- the opening book
-pub opening_book : (means : Meanings) (r : Ref) → stamp_of r ≡ 1 → IsOpened means (opening r)
-opening_book means r one =
-    let spelled : Spells means (drawn (opening r)) (stamp_of r) (after []) = subst
-    (λ (k : ℕ). Spells means (drawn (opening r)) k (after [])) (sym one) (opening_spells means r) in (
+pub opening_book : (means : Meanings) (n : ℕ) (r : Ref) → stamp_of r ≡ 1 → IsOpened means (opening n r)
+opening_book means n r one =
+    let spelled : Spells means (drawn (opening n r)) (stamp_of r) (after []) = subst
+    (λ (k : ℕ). Spells means (drawn (opening n r)) k (after [])) (sym one) (opening_spells means n r) in (
       record {
         numbered = refl;
         room = lit≤ tt;
@@ -430,17 +447,19 @@ opening_book means r one =
         spelled = spelled;
       },
       refl,
+      (λ k d lt. absurd (omega (arith, lt))),
     )
 
-opens_goes : (means : Meanings) (v log : List Entry) (ask : Entry) (r : Ref) (h d : ℕ) → key_of ask ≡ 0 → stamp_of r ≡ 1
+opens_goes : (means : Meanings) (v log : List Entry) (seats : ℕ) (r : Ref) (h d : ℕ) → stamp_of r ≡ 1
     → Fits means h d log
-    → Goes (IsKept means) shown (Trades ask) 0 (v, (no_nib, None)) (λ n. either (n == 0) r.bits n)
-    (tells Opens (step 0 0 r.bits ask) (v, (no_nib, None))) ((h, true) ∷ (d, true) ∷ []) log
-opens_goes means v log ask r h d key one (inl fits) =
+    → Goes (IsKept means) shown (Trades (opened seats r)) 0 (v, (no_nib, None)) (λ n. either (n == 0) r.bits n)
+    (tells Opens (step 0 0 r.bits (opened seats r)) (v, (no_nib, None))) ((h, true) ∷ (d, true) ∷ []) log
+opens_goes means v log seats r h d one (inl fits) =
+    let ask = opened seats r in
     let n : Answer = answer (count (key_of ask) (log ++ [])) (count (key_of ask) (log ++ [])) in
     let is : (h == 0) ≡ false = head_some means log h fits.opened fits.head_is in
     let h' : either (h == 0) r.bits h ≡ h = rw is refl in
-    let counts : 0 < count (key_of ask) (log ++ []) = rw (append-nil log, key) (count_starts log fits.opened.1) in (
+    let counts : 0 < count (key_of ask) (log ++ []) = rw (append-nil log) (count_starts log fits.opened.1) in (
       keeps,
       [],
       Some n,
@@ -449,26 +468,26 @@ opens_goes means v log ask r h d key one (inl fits) =
       inr (n, refl, refl, trades_same ask log),
       record { counts = n; counted = refl; opened = λ none. absurd (omega (arith, none, counts)) },
     )
-opens_goes means v log ask r h d key one (inr un) =
+opens_goes means v log seats r h d one (inr un) =
+    let ask = opened seats r in
+    let book = opening seats r in
     let n : Answer = answer 0 2 in
     let h' : either (h == 0) r.bits h ≡ r.bits = rw un.head_is refl in
-    let d' : d ≡ next_stamp (opening r) = un.drafts_are in
-    let opened : IsOpened means (opening r) = opening_book means r one in
-    let all : log ++ opening r ≡ opening r = ap (λ w. w ++ opening r) un.empty in
-    let kept : IsKept means ((r.bits, true) ∷ (d, true) ∷ [])
-    (opening r) = record {
+    let d' : d ≡ next_stamp book = un.drafts_are in
+    let all : log ++ book ≡ book = ap (λ w. w ++ book) un.empty in
+    let kept : IsKept means ((r.bits, true) ∷ (d, true) ∷ []) book = record {
       head = r.bits;
       drafts = d;
       words = refl;
-      fits = inl (record { opened = opened; head_is = refl; drafts_are = d' });
+      fits = inl (record { opened = opening_book means seats r one; head_is = refl; drafts_are = d' });
     } in
-    let trade : Trades ask log (log ++ opening r) n = record {
-      before = sym (ap (count (key_of ask)) un.empty);
-      after = rw (all, key) refl;
-      others = λ k other. rw (all, un.empty) (opening_counts r k (λ e. other (e ∙ sym key)));
+    let trade : Trades ask log (log ++ book) n = record {
+      before = sym (ap (count 0) un.empty);
+      after = rw all refl;
+      others = λ k other. rw (all, un.empty) (opening_counts seats r k other);
     } in (
       keeps,
-      opening r,
+      book,
       Some n,
       tt,
       subst (λ (k : ℕ × List Entry). IsKept means ((k.0, true) ∷ (d, true) ∷ []) k.1) (λ i. (sym h' i, sym all i)) kept,
@@ -477,11 +496,12 @@ opens_goes means v log ask r h d key one (inr un) =
     )
 
 -- the exchange opens the book, where nothing was added by no seat
-pub opens_moves : (means : Meanings) (v : List Entry) (ask : Entry) (r : Ref) → key_of ask ≡ 0 → stamp_of r ≡ 1
-    → Moves (IsKept means) shown (Trades ask) 0 (v, (no_nib, None)) (λ n. either (n == 0) r.bits n)
-    (tells Opens (step 0 0 r.bits ask) (v, (no_nib, None)))
-opens_moves means v ask r key one cs log kept pre away =
+pub opens_moves : (means : Meanings) (v : List Entry) (seats : ℕ) (r : Ref) → stamp_of r ≡ 1
+    → Moves (IsKept means) shown (Trades (opened seats r)) 0 (v, (no_nib, None)) (λ n. either (n == 0) r.bits n)
+    (tells Opens (step 0 0 r.bits (opened seats r)) (v, (no_nib, None)))
+opens_moves means v seats r one cs log kept pre away =
+    let ask = opened seats r in
     let P : List Cell → Type 0 = λ c. (0 < length c) × ((cell c 0).1 ≡ true)
     × Goes (IsKept means) shown (Trades ask) 0 (v, (no_nib, None)) (λ n. either (n == 0) r.bits n)
     (tells Opens (step 0 0 r.bits ask) (v, (no_nib, None))) c log in
-    subst P (sym kept.words) (omega arith, refl, opens_goes means v log ask r kept.head kept.drafts key one kept.fits)
+    subst P (sym kept.words) (omega arith, refl, opens_goes means v log seats r kept.head kept.drafts one kept.fits)

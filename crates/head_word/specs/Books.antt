@@ -1,7 +1,7 @@
 -- The book of a group: the contents that were drafted, by stamp, and the moves of the head.
 -- This project's own rules.
 use Rattle.std.specs.Prelude.{ℕ, suc, nat_lt, ◌-◌, cond, ◌≡◌, ◌+◌, ◌<◌, ◌≤◌, ◌==◌, ◌&&◌, Bool, true, List, [], ◌∷◌}
-use Rattle.std.specs.Prelude.{◌++◌, length, map, take, All, Some, None, Option}
+use Rattle.std.specs.Prelude.{◌++◌, length, map, take, drop, All, Some, None, Option}
 use Rattle.std.specs.FinMap as finite
 use Rattle.group_history.specs.declared.refs.Ref.{Ref}
 use Rattle.group_history.specs.declared.changes.Change.{Change}
@@ -20,6 +20,7 @@ use Rattle.group_history.specs.Spelling.{Contents, Spells}
 use Rattle.group_history.specs.State.{State}
 use Rattle.head_word.specs.declared.entry.Entry.{Entry}
 use Rattle.head_word.specs.declared.entry.Entry.TheVariants as v
+use Rattle.head_word.specs.Tallies.{key_of}
 
 -- the contents that a draft adds: its nodes, whose children are named by stamps
 abbrev pub drafted_contents : ℕ → List (Node Child) → Contents
@@ -30,6 +31,7 @@ abbrev pub drawn : List Entry → Contents
 drawn [] = []
 drawn (v.Draft d ∷ es) = drafted_contents d.first d.contents ++ drawn es
 drawn (v.Move m ∷ es) = drawn es
+drawn (v.Opening o ∷ es) = drawn es
 
 -- the first stamp not drawn
 abbrev pub next_stamp : List Entry → ℕ
@@ -40,12 +42,14 @@ abbrev pub numbered : ℕ → List Entry → Bool
 numbered n [] = true
 numbered n (v.Draft d ∷ es) = (d.first == n) && numbered (n + length d.contents) es
 numbered n (v.Move m ∷ es) = numbered n es
+numbered n (v.Opening o ∷ es) = numbered n es
 
 -- where the last move went, or r
 abbrev pub moved_from : Ref → List Entry → Ref
 moved_from r [] = r
 moved_from r (v.Draft d ∷ es) = moved_from r es
 moved_from r (v.Move m ∷ es) = moved_from m.to es
+moved_from r (v.Opening o ∷ es) = moved_from o.to es
 
 -- the reference that the head has before the book is opened
 abbrev pub nowhere : Ref
@@ -60,11 +64,12 @@ abbrev pub with_change : Option Change → List Change → List Change
 with_change None cs = cs
 with_change (Some c) cs = c ∷ cs
 
--- the record of a book: the changes of its moves
+-- the record of a book: the changes of its moves; the opening's has none
 abbrev pub record_of : List Entry → List Change
 record_of [] = []
 record_of (v.Draft d ∷ es) = record_of es
-record_of (v.Move m ∷ es) = with_change m.change (record_of es)
+record_of (v.Move m ∷ es) = m.change ∷ record_of es
+record_of (v.Opening o ∷ es) = record_of es
 
 -- each content's children bear smaller stamps than it; the first content's stamp is n
 abbrev pub AreOrdered : ℕ → Contents → Type 0
@@ -85,8 +90,12 @@ abbrev pub drafted : Option ℕ → ℕ → List (Node Child) → Entry
 drafted by first contents = v.Draft (record { by = by; first = first; contents = contents })
 
 -- the entry of a move, by this seat or by none
-abbrev pub moved : Option ℕ → Ref → Option Change → Entry
+abbrev pub moved : Option ℕ → Ref → Change → Entry
 moved by to change = v.Move (record { by = by; to = to; change = change })
+
+-- the entry of the move that opens a book, for so many seats
+abbrev pub opened : ℕ → Ref → Entry
+opened seats to = v.Opening (record { to = to; seats = seats })
 
 -- what a book opens with: an empty leaf, of stamp 0
 abbrev pub empty_leaf : Node Child
@@ -103,9 +112,9 @@ opening_snapshot = node.Commit (record {
 abbrev pub opening_stamps : ℕ
 opening_stamps = 2
 
--- the two entries that a book opens with, by no seat: their draft, and a move to the snapshot
-abbrev pub opening : Ref → List Entry
-opening r = drafted None 0 (empty_leaf ∷ opening_snapshot ∷ []) ∷ moved None r None ∷ []
+-- the two entries that a book for so many seats opens with, by no seat: their draft, and a move to the snapshot
+abbrev pub opening : ℕ → Ref → List Entry
+opening seats to = drafted None 0 (empty_leaf ∷ opening_snapshot ∷ []) ∷ opened seats to ∷ []
 
 -- how many they are
 abbrev pub opening_entries : ℕ
@@ -120,15 +129,32 @@ abbrev pub opened_at : List Entry → Ref
 opened_at [] = nowhere
 opened_at (e ∷ []) = nowhere
 opened_at (e ∷ v.Draft d ∷ es) = nowhere
-opened_at (e ∷ v.Move m ∷ es) = m.to
+opened_at (e ∷ v.Move m ∷ es) = nowhere
+opened_at (e ∷ v.Opening o ∷ es) = o.to
+
+-- for how many seats that move opened the book
+abbrev pub seats_of : List Entry → ℕ
+seats_of [] = 0
+seats_of (e ∷ []) = 0
+seats_of (e ∷ v.Draft d ∷ es) = 0
+seats_of (e ∷ v.Move m ∷ es) = 0
+seats_of (e ∷ v.Opening o ∷ es) = o.seats
 
 -- the book begins with the opening's entries
 abbrev pub StartsOpened : List Entry → Type 0
-StartsOpened log = take opening_entries log ≡ opening (opened_at log)
+StartsOpened log = take opening_entries log ≡ opening (seats_of log) (opened_at log)
 
--- a legal book that begins with the opening's entries
+-- the entry was added by one of so many seats
+abbrev pub IsBySeat : ℕ → Entry → Type 0
+IsBySeat seats e = (0 < key_of e) × (key_of e ≤ seats)
+
+-- and so was each entry behind the opening's
+abbrev pub AreBySeats : ℕ → List Entry → Type 0
+AreBySeats seats log = All (IsBySeat seats) (drop opening_entries log)
+
+-- a legal book that begins with the opening's entries, and whose others were added by its seats
 abbrev pub IsOpened : Meanings → List Entry → Type 0
-IsOpened means log = IsBook means log × StartsOpened log
+IsOpened means log = IsBook means log × StartsOpened log × AreBySeats (seats_of log) log
 
 -- the child that a reference names in a draft whose nodes are numbered from here on: a stamp below is that of a node
 -- drawn before, and another one that of a node of the draft, by its number

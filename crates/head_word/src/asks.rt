@@ -3,7 +3,7 @@ use crate::entry::{Answer, Entry};
 use group_history::{Change, Node, Ref};
 use logbook::Plain;
 
-/// A look by a seat, or by none.
+/// A look by a seat, or by none. It adds nothing, and asks as a draft of no nodes would.
 #[derive(Drop)]
 pub struct Look {
     pub by: Option<u64>,
@@ -18,6 +18,13 @@ pub struct Wanted<'a> {
     pub nodes: &'a [Node<Ref>],
 }
 
+/// The move that opens the book, to be added.
+#[derive(Drop)]
+pub struct Opening {
+    pub seats: u64,
+    pub to: Ref,
+}
+
 /// A move to be added.
 #[derive(Drop)]
 pub struct Proposed<'a> {
@@ -30,10 +37,10 @@ pub struct Proposed<'a> {
 pub struct Asks;
 
 impl Plain<Look, Entry, Answer> for Asks {
-    ghost use Rattle.std.specs.Prelude.{None};
-    ghost use Rattle.head_word.specs.Books.{moved, nowhere};
+    ghost use Rattle.std.specs.Prelude.{None, []};
+    ghost use Rattle.head_word.specs.Books.{drafted};
 
-    ghost ask = { λ w. moved w.by nowhere None };
+    ghost ask = { λ w. drafted w.by 0 [] };
 
     ghost state = { λ w. None };
 }
@@ -47,11 +54,20 @@ impl<'a> Plain<Wanted<'a>, Entry, Answer> for Asks {
     ghost state = { λ w. None };
 }
 
+impl Plain<Opening, Entry, Answer> for Asks {
+    ghost use Rattle.std.specs.Prelude.{None};
+    ghost use Rattle.head_word.specs.Books.{opened};
+
+    ghost ask = { λ w. opened w.seats w.to };
+
+    ghost state = { λ w. None };
+}
+
 impl<'a> Plain<Proposed<'a>, Entry, Answer> for Asks {
-    ghost use Rattle.std.specs.Prelude.{None, Some};
+    ghost use Rattle.std.specs.Prelude.{None};
     ghost use Rattle.head_word.specs.Books.{moved};
 
-    ghost ask = { λ w. moved w.by w.to (Some w.change.now) };
+    ghost ask = { λ w. moved w.by w.to w.change.now };
 
     ghost state = { λ w. None };
 }
@@ -60,11 +76,11 @@ impl<'a> Plain<Proposed<'a>, Entry, Answer> for Asks {
 pub struct Idle;
 
 impl Plain<Look, Entry, Answer> for Idle {
-    ghost use Rattle.std.specs.Prelude.{None, Some};
-    ghost use Rattle.head_word.specs.Books.{moved, nowhere};
+    ghost use Rattle.std.specs.Prelude.{Some, []};
+    ghost use Rattle.head_word.specs.Books.{drafted};
     ghost use Rattle.head_word.specs.Inside.Steps.{answer};
 
-    ghost ask = { λ w. moved w.by nowhere None };
+    ghost ask = { λ w. drafted w.by 0 [] };
 
     ghost state = { λ w. Some (answer 0 0) };
 }

@@ -10,12 +10,19 @@ pub struct DraftEntry {
     pub contents: LinkedList<Node<Child>>,
 }
 
-/// A move of the head to a commit, and by which seat. The opening move alone has no change.
+/// A move of the head to a commit by a change, and by which seat.
 #[derive(Drop)]
 pub struct MoveEntry {
     pub by: Option<u64>,
     pub to: Ref,
-    pub change: Option<Change>,
+    pub change: Change,
+}
+
+/// The move that opens the book, by no seat, and for how many seats the book is opened.
+#[derive(Drop)]
+pub struct OpeningEntry {
+    pub to: Ref,
+    pub seats: u64,
 }
 
 /// An entry of the book.
@@ -23,6 +30,7 @@ pub struct MoveEntry {
 pub enum Entry {
     Draft(DraftEntry),
     Move(MoveEntry),
+    Opening(OpeningEntry),
 }
 
 /// How many entries a seat had added before a step, and after it.

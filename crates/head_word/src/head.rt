@@ -146,9 +146,9 @@ impl<M: Means> Head<M> {
         ensures seat { mark.new.seat ≡ mark.old.seat }
         ensures seen { IsPrefix mark.old.log mark.new.log }
         ensures won { IfOk result (λ _. (log : List Entry) × IsPrefix mark.old.log log × IsOpened M.means log
-            × (last_move log ≡ base) × (mark.new.log ≡ log ++ moved mark.old.seat new (Some change.now) ∷ [])) }
+            × (last_move log ≡ base) × (mark.new.log ≡ log ++ moved mark.old.seat new change.now ∷ [])) }
         ensures once { IfOk result (λ _. own mark.new
-            ≡ own mark.old ++ moved mark.old.seat new (Some change.now) ∷ []) }
+            ≡ own mark.old ++ moved mark.old.seat new change.now ∷ []) }
         ensures nothing { IfErr result (λ _. own mark.new ≡ own mark.old) }
         ensures moved { IfErr result (λ _. last_move mark.new.log ≢ base) }
     {

@@ -5,7 +5,8 @@
 //! drew. In definitions the two stand for one list that only grows, the *book*: an entry is a draft (its first stamp,
 //! its nodes) or a move (where to, by which change), each with the seat that added it. The content at place p of a
 //! draft with first stamp f has the stamp f + p. A book opens with a draft of an empty leaf and the opening snapshot,
-//! and a move to that snapshot.
+//! and a move to that snapshot, which tells for how many seats it is opened. No seat added these two, and one of its
+//! seats each entry behind them.
 //!
 //! Of every book is true (`IsBook`): stamps are drawn in order, and at most 2^40; children have smaller stamps than
 //! their parents; the record, which is the changes of the moves, is legal; the commit where the last move went spells
@@ -39,7 +40,7 @@ mod opening;
 mod steps;
 mod tally;
 
-pub use entry::{DraftEntry, Entry, MoveEntry};
+pub use entry::{DraftEntry, Entry, MoveEntry, OpeningEntry};
 pub use group_history::Ref;
 pub use head::Head;
 pub use laws::{book_laws, one_record};

@@ -4,8 +4,8 @@
 //! knows stands in its model alone, where contracts read it. A seat's `Mark` bears the seat's tally as
 //! well, which says how many entries of the seat the book has; so at each step of the seat the proofs
 //! know which of the entries that came in meanwhile are its own: none but those that this very step added.
-ghost use Rattle.std.specs.Prelude.{◌≡◌, None};
-ghost use Rattle.head_word.specs.Books.{IsOpened};
+ghost use Rattle.std.specs.Prelude.{◌≡◌, ◌<◌, None, IfSome};
+ghost use Rattle.head_word.specs.Books.{seats_of, IsOpened};
 ghost use Rattle.head_word.specs.Marks.{known};
 
 use crate::entry::{Answer, Entry};
@@ -119,9 +119,10 @@ impl<M: Means> Mark<M> {
         }
     }
 
-    /// What every mark has seen is a legal book.
+    /// What every mark has seen is a legal book, and its seat is one of the book's.
     pub fn legal(&self)
-        ensures { IsOpened M.means self.now.log }
+        ensures opened { IsOpened M.means self.now.log }
+        ensures seat { IfSome self.now.seat (λ j. j < seats_of self.now.log) }
     {
         let _seen = &self.seen;
     }

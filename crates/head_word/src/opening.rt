@@ -8,7 +8,7 @@ ghost use Rattle.head_word.specs.Books.{IsOpened, opening, opening_ref};
 ghost use Rattle.head_word.specs.Marks.{seated};
 ghost use Rattle.head_word.specs.Inside.Parts.{keys_of};
 
-use crate::asks::{Asks, Look};
+use crate::asks::{Asks, Opening};
 use crate::entry::{Answer, Entry};
 use crate::head::Head;
 use crate::law::{Law, Opens, Traded};
@@ -25,7 +25,7 @@ impl<M: Means> Head<M> {
     pub fn open(alloc: Global, seats: u32, slot: u32) -> Result<(Head<M>, Vec<Mark<M>>), AllocError>
         requires seats { (1 ≤ seats) × (seats ≤ max_seats) }
         requires slot { slot < max_slots }
-        ensures marks { IfOk result (λ made. made.1.items ≡ seated made.0 (opening (opening_ref slot)) seats) }
+        ensures marks { IfOk result (λ made. made.1.items ≡ seated made.0 (opening seats (opening_ref slot)) seats) }
     {
         let (start, mut tallies) = Tallies::open::<M>(seats as u64 + 1);
         let none = tallies.take();
@@ -34,21 +34,21 @@ impl<M: Means> Head<M> {
             head_word: Word::tracked(0, &mut first),
             draft_word: Word::tracked(2, &mut second),
         };
-        head.add_opening(&mut seen, none, Ref::new(1, slot));
+        head.add_opening(&mut seen, none, seats as u64, Ref::new(1, slot));
         let marks = seat_all(alloc, &seen, tallies, seats)?;
         Ok((head, marks))
     }
 
     /// The exchange that opens the book.
-    fn add_opening(&self, seen: &mut Seen<Entry, Answer, Law<M>>, none: Tally, to: Ref)
+    fn add_opening(&self, seen: &mut Seen<Entry, Answer, Law<M>>, none: Tally, seats: u64, to: Ref)
         requires book { seen.old.book ≡ self.now }
         requires tally { (none.names ≡ seen.old.names) × (none.key ≡ 0) × (none.count ≡ 0) × (0 < keys_of none.names) }
         requires stamp { stamp_of to ≡ 1 }
         ensures book { seen.new.book ≡ seen.old.book }
         ensures names { seen.new.names ≡ seen.old.names }
-        ensures opened { seen.new.log ≡ opening to }
+        ensures opened { seen.new.log ≡ opening seats to }
     {
-        let mut offer = none.offered::<M, Look, Asks>(&Look { by: None });
+        let mut offer = none.offered::<M, Opening, Asks>(&Opening { seats, to });
         let mut pen = seen.no_pen();
         let bits = to.bits();
         let _ = self
@@ -65,7 +65,7 @@ fn seat_all<M: Means>(
     mut tallies: Tallies,
     seats: u32,
 ) -> Result<Vec<Mark<M>>, AllocError>
-    requires opened { (at : Ref) × (seen.now.log ≡ opening at) × IsOpened M.means (opening at) }
+    requires opened { (at : Ref) × (seen.now.log ≡ opening seats at) × IsOpened M.means (opening seats at) }
     requires tallies { (tallies.names ≡ seen.now.names) × (tallies.next ≡ 1) × (tallies.left ≡ seats)
         × (keys_of tallies.names ≡ seats + 1) }
     ensures marks { IfOk result (λ marks. marks.items ≡ seated seen.now.book seen.now.log seats) }

@@ -96,10 +96,10 @@ impl<M: Means> Head<M> {
         ensures seat { mark.new.seat ≡ mark.old.seat }
         ensures seen { IsPrefix mark.old.log mark.new.log }
         ensures added { MatchBool result ((log : List Entry) × IsPrefix mark.old.log log × IsOpened M.means log
-            × (last_move log ≡ base) × (mark.new.log ≡ log ++ moved mark.old.seat new (Some change.now) ∷ []))
+            × (last_move log ≡ base) × (mark.new.log ≡ log ++ moved mark.old.seat new change.now ∷ []))
             (last_move mark.new.log ≢ base) }
         ensures own { own mark.new ≡ own mark.old
-            ++ (if result then moved mark.old.seat new (Some change.now) ∷ [] else []) }
+            ++ (if result then moved mark.old.seat new change.now ∷ [] else []) }
     {
         let Some(seat) = mark.seat.take() else {
             return false;

@@ -6,22 +6,19 @@ use Rattle.std.proofs.lemmas.List.{length-append, length-map}
 use Rattle.std.proofs.lemmas.List.Elements.{All-map, All-nil, All-pop, All-push}
 use Rattle.commit_graph.specs.Seats.{IsSeatOf, Seated}
 use Rattle.head_word.specs.Books.{opening, opening_ref}
+use Rattle.head_word.specs.Marks.{Known}
 use Rattle.rebase.specs.Clients.{AreOpening, AreSeatsOf, Grouped}
 use Rattle.rebase.specs.Configs.{Layout}
-use Rattle.host_places.specs.Opening.{AreOpened, IsNew}
+use Rattle.host_places.specs.Opening.{AreOpened, IsNew, SawOpening}
 use Rattle.host_places.specs.Desks.{DeskState}
 use Rattle.client_desk.specs.Places.{free_place}
-
--- the seat has seen the opening of its book alone
-abbrev pub SawOpening : ℕ → Seated → Type 0
-SawOpening commit seat = seat.mark.log ≡ opening (opening_ref commit)
 
 -- so many of the group's seats have got their places
 pub record Filled (group : Grouped) (total free : List Seated) (desks : List DeskState) : Type 0 where
   pub home : AreSeatsOf group.group free
   pub count : length desks + length free ≡ length total
-  pub new : (commit : ℕ) → All (SawOpening commit) total
-      → All (SawOpening commit) free × All (λ d. IsNew group commit d.place) desks
+  pub new : (commit : ℕ) → All (SawOpening group commit) total
+      → All (SawOpening group commit) free × All (λ d. IsNew group commit d.place) desks
 
 pub none_filled : (group : Grouped) (total : List Seated) (desks : List DeskState) → AreSeatsOf group.group total
     → desks ≡ [] → Filled group total total desks
@@ -46,7 +43,7 @@ one_more group total free left seat desk desks more taken place pushed was =
           omega (arith, now, before, was.count);
       new = λ commit all.
           let both = was.new commit all in
-          let seen = All-pop (SawOpening commit) free left (Some seat) taken both.0 in (
+          let seen = All-pop (SawOpening group commit) free left (Some seat) taken both.0 in (
             seen.0,
             subst (All (λ d. IsNew group commit d.place)) (sym pushed)
                 (All-push (λ d. IsNew group commit d.place) desks desk both.1
@@ -58,14 +55,17 @@ one_more group total free left seat desk desks more taken place pushed was =
 pub opened_with : (layout : Layout) (group : Grouped) (free : List Seated) (desks : List DeskState)
     → group.identity ≡ layout.identity → length free ≡ layout.seats
     → group.group.table.sizes ≡ record { readers = layout.seats; slots = layout.slots }
-    → AreOpening ⊤ group.group.table.sizes free → length desks ≡ length free
-    → ((commit : ℕ) → All (SawOpening commit) free → All (λ d. IsNew group commit d.place) desks)
+    → AreOpening ⊤ layout.seats group.group free → length desks ≡ length free
+    → ((commit : ℕ) → All (SawOpening group commit) free → All (λ d. IsNew group commit d.place) desks)
     → AreOpened layout (map (λ d. d.place) desks)
-opened_with layout group free desks identity seats sizes opening count new = record {
+opened_with layout group free desks identity seats sizes opened count new = record {
   group = group;
-  commit = opening.commit;
+  commit = opened.commit;
   identity = identity;
   sizes = sizes;
   count = length-map desks (λ d. d.place) ∙ count ∙ seats;
-  all = All-map (IsNew group opening.commit) (λ (d : DeskState). d.place) desks (new opening.commit opening.seen);
+  all = All-map (IsNew group opened.commit) (λ (d : DeskState). d.place) desks (new opened.commit
+      (subst (λ (n : ℕ). All (λ (seat : Seated). seat.mark.log ≡ opening n (opening_ref opened.commit)) free)
+      (λ i. (sym sizes i).readers)
+      (λ k d below. ap (λ (m : Known). m.log) (opened.marks k d below))));
 }

@@ -38,12 +38,16 @@ layout_said id profile schema slots seats =
 abbrev pub layout_for : Opening → Result Layout Outcome
 layout_for with_ = layout_said with_.id.now with_.profile.now with_.schema.now with_.slots with_.places
 
+-- the seat has seen the opening of the group's book alone, which is for as many seats as its table
+abbrev pub SawOpening : Grouped → ℕ → Seated → Type 0
+SawOpening group commit seat = seat.mark.log ≡ opening group.group.table.sizes.readers (opening_ref commit)
+
 -- A place of a group that was just opened: nobody sits there, and its seat has seen the opening of the group's book
 -- alone.
 pub record IsNew (group : Grouped) (commit : ℕ) (p : PlaceState) : Type 0 where
   pub seat : Seated
   pub home : IsSeatOf group.group seat
-  pub seen : seat.mark.log ≡ opening (opening_ref commit)
+  pub seen : SawOpening group commit seat
   pub free : p ≡ free_place group seat
 
 -- the places of a group that was just opened with this layout

@@ -1,14 +1,13 @@
 //! A group that is opened, and its places.
 ghost use Rattle.std.specs.Prelude.{◌≡◌, ◌⊎◌, [], ℕ, Err, IfErr, IfOk, Ok, OnOk, length, map};
 ghost use Rattle.std.specs.List.{All};
-ghost use Rattle.head_word.specs.Books.{opening, opening_ref};
 ghost use Rattle.std.specs.Arc.{arc_value};
 ghost use Rattle.commit_graph.specs.Seats.{IsSeatOf};
 ghost use Rattle.rebase.specs.Clients.{AreSeatsOf};
 ghost use Rattle.rebase.specs.Configs.{Layout};
 ghost use Rattle.host_places.specs.Asking.{IsSaid};
 ghost use Rattle.host_places.specs.Inside.Filling.{IsAdded};
-ghost use Rattle.host_places.specs.Opening.{AreOpened, IsNew, IsWant, id_said, identity_said, layout_for};
+ghost use Rattle.host_places.specs.Opening.{AreOpened, IsNew, IsWant, SawOpening, id_said, identity_said, layout_for};
 ghost use Rattle.client_desk.specs.Places.{free_place};
 
 use crate::desk::Desk;
@@ -115,7 +114,7 @@ fn fill_desks<M: Hosted + Sync>(
     requires home { AreSeatsOf (arc_value group.now).group seats.old.free }
     requires none { desks.old.items ≡ [] }
     ensures count { OnOk result (length desks.new.items ≡ length seats.old.free) }
-    ensures new { (commit : ℕ) → All (λ seat. seat.mark.log ≡ opening (opening_ref commit)) seats.old.free
+    ensures new { (commit : ℕ) → All (SawOpening (arc_value group.now) commit) seats.old.free
         → OnOk result (All (λ d. IsNew (arc_value group.now) commit d.place) desks.new.items) }
 {
     while let Ok(seat) = seats.take() {
@@ -132,7 +131,7 @@ fn desks_of<M: Hosted + Sync>(
 ) -> Result<Vec<Desk<M>>, AllocError>
     requires { AreSeatsOf (arc_value group).group seats.free }
     ensures count { IfOk result (λ desks. length desks.items ≡ length seats.free) }
-    ensures new { (commit : ℕ) → All (λ seat. seat.mark.log ≡ opening (opening_ref commit)) seats.free
+    ensures new { (commit : ℕ) → All (SawOpening (arc_value group) commit) seats.free
         → IfOk result (λ desks. All (λ d. IsNew (arc_value group) commit d.place) desks.items) }
 {
     let mut seats = seats;
@@ -156,7 +155,7 @@ fn desks_at<M: Hosted + Sync>(
 ) -> Result<Vec<Desk<M>>, AllocError>
     requires { AreSeatsOf group.group seats.free }
     ensures count { IfOk result (λ desks. length desks.items ≡ length seats.free) }
-    ensures new { (commit : ℕ) → All (λ seat. seat.mark.log ≡ opening (opening_ref commit)) seats.free
+    ensures new { (commit : ℕ) → All (SawOpening group commit) seats.free
         → IfOk result (λ desks. All (λ d. IsNew group commit d.place) desks.items) }
 {
     let group = Arc::new(alloc, group)?;

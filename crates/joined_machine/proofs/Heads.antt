@@ -180,7 +180,7 @@ module _ (k : Sizes) (s : World) (o : Joint k s) (id : ℕ) (v : View) (a : Work
   pub publish_kept : (old new : Commit) (change : Change) → MayPublish s a old new
       → Joint k (moved_to s id a old new change)
   publish_kept old new change may = let b = with_won a old new in let drawn = may.drawn in
-      let entry : Entry = moved (Some id) new.at (Some change) in let log : List Entry = s.log ++ entry ∷ [] in
+      let entry : Entry = moved (Some id) new.at change in let log : List Entry = s.log ++ entry ∷ [] in
       let goes : last_move log ≡ new.at = moved_more nowhere s.log (entry ∷ []) in
       let same_stamps : next_stamp log ≡ next_stamp s.log = let more = next_more s.log (entry ∷ []) in omega arith in
       let low = (o.drawn id a (stamp_of new.at) me.work drawn).0 in record {

@@ -36,10 +36,10 @@ abbrev new : Commit
 new = record { at = record { bits = 2 * (opening_ref 0).bits + 2 }; slots = 2 ∷ [] }
 
 abbrev drafted_book : List Entry
-drafted_book = book ++ drafted (Some 2) 2 (empty_leaf ∷ []) ∷ []
+drafted_book = book sizes ++ drafted (Some 2) 2 (empty_leaf ∷ []) ∷ []
 
 abbrev moved_book : List Entry
-moved_book = drafted_book ++ moved (Some 2) new.at (Some pull) ∷ []
+moved_book = drafted_book ++ moved (Some 2) new.at pull ∷ []
 
 abbrev opening_world : World
 opening_world = start sizes (omega arith) (omega arith) (omega arith)
@@ -96,28 +96,30 @@ abbrev done : Work
 done = record (left only false) { commits = [] }
 
 -- Both readers pin the epoch 0, load the head and begin a try. The first settles the slot 1
-abbrev begun : Way f2 (v3 sizes) w1 book only mine (trying [] [])
+abbrev begun : Way f2 (v3 sizes) w1 (book sizes) only mine (trying [] [])
 begun =
     let v : View = v3 sizes in let p : View = with_pin w0 (Stored 0) in
     let loaded : Work = record { commits = seen; try = no_try } in
-    let h1 : Way f1 v w0 book only mine no_work =
+    let h1 : Way f1 v w0 (book sizes) only mine no_work =
     tried sizes opening_world (dealer sizes 3) (w0 ∷ []) (no_work ∷ []) (omega arith)
     (no_way sizes (omega arith) (omega arith) (omega arith)) in
-    let h2 : Way (after f1 16 1) v p book only mine no_work = second_on h1 16 0 1 p (omega arith) refl
+    let h2 : Way (after f1 16 1) v p (book sizes) only mine no_work = second_on h1 16 0 1 p (omega arith) refl
     (table.store_pin 0 0 (omega arith) (omega arith)) (λ n. n) in
-    let h3 : Way f2 v w1 book only mine no_work = second_on h2 0 0 0 w1 (omega arith) refl (table.load_epoch 0) tt in
-    let h4 : Way f2 v w1 book only mine loaded = second_beside h3 book only loaded events.loads_head
+    let h3 : Way f2 v w1 (book sizes) only mine no_work =
+    second_on h2 0 0 0 w1 (omega arith) refl (table.load_epoch 0) tt in
+    let h4 : Way f2 v w1 (book sizes) only mine loaded = second_beside h3 (book sizes) only loaded events.loads_head
     (machine.load_head 2 w1 no_work (other h3) (0, refl)) in
-    second_beside h4 book only (trying [] []) events.begins (machine.begin 2 w1 loaded (other h4) (0, refl) (λ n. n))
+    second_beside h4 (book sizes) only (trying [] []) events.begins
+    (machine.begin 2 w1 loaded (other h4) (0, refl) (λ n. n))
 
 -- The second settles the slot 2, draws a stamp, moves the head to a commit that lies there, and takes its pin away
 abbrev published : Way f3 (v3 sizes) w3 moved_book (2 ∷ []) mine done
 published =
     let v : View = v3 sizes in let t : View = with_taken w1 2 in
     let drew : Work = trying (2 ∷ []) ((2, 3) ∷ []) in
-    let h1 : Way (after f2 2058 6) v t book only mine (trying [] []) = second_on begun 2058 0 6 t (omega arith) refl
-    (table.take 2 (omega arith) (omega arith)) tt in
-    let h2 : Way (after (after f2 2058 6) 2058 1) v w2 book only mine (trying (2 ∷ []) []) =
+    let h1 : Way (after f2 2058 6) v t (book sizes) only mine (trying [] []) =
+    second_on begun 2058 0 6 t (omega arith) refl (table.take 2 (omega arith) (omega arith)) tt in
+    let h2 : Way (after (after f2 2058 6) 2058 1) v w2 (book sizes) only mine (trying (2 ∷ []) []) =
     second_on h1 2058 6 1 w2 (omega arith) refl (table.settle 2 (inl refl)) tt in
     let h3 : Way (after (after f2 2058 6) 2058 1) v w2 drafted_book only mine drew =
     second_beside h2 drafted_book only drew (events.draws (empty_leaf ∷ []))

@@ -225,8 +225,8 @@ module _ (k : Sizes) (s : Stock) (o : Stamped k s) where
         trying_drawn a.try first end n',
         slots_drawn a.try first end z h,
       )) (step_joint k s.world t e o.joint (machine.draw id contents v a me))
-  goes_stamped e t (machine.publish id old new change v a me may) f = let entry : Entry = moved (Some id) new.at
-      (Some change) in
+  goes_stamped e t (machine.publish id old new change v a me may) f =
+      let entry : Entry = moved (Some id) new.at change in
       let log : List Entry = s.world.log ++ entry ∷ [] in
       let goes : last_move log ≡ new.at = moved_more nowhere s.world.log (entry ∷ []) in let q : ℕ = stamp_of new.at in
       let b : Work = with_won a old new in

@@ -207,7 +207,7 @@ module _ (k : Sizes) (some_reader : 0 < k.readers) (few : k.readers ≤ max_seat
   world_of zs done h = record {
     words = h.words;
     views = seats k done;
-    log = opening (opening_ref 0);
+    log = opening k.readers (opening_ref 0);
     reached = zs;
     works = replicate (length (seats k done)) no_work;
   }

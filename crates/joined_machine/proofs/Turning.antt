@@ -28,10 +28,10 @@ abbrev new : Commit
 new = record { at = record { bits = 2 * (opening_ref 0).bits + 1 }; slots = 1 ∷ [] }
 
 abbrev drafted_book : List Entry
-drafted_book = book ++ drafted (Some 1) 2 (empty_leaf ∷ []) ∷ []
+drafted_book = book sizes ++ drafted (Some 1) 2 (empty_leaf ∷ []) ∷ []
 
 abbrev moved_book : List Entry
-moved_book = drafted_book ++ moved (Some 1) new.at (Some pull) ∷ []
+moved_book = drafted_book ++ moved (Some 1) new.at pull ∷ []
 
 abbrev again : Work
 again = record { commits = []; try = under_way [] [] }
@@ -63,7 +63,8 @@ open_now = (omega arith, λ j low high. (0, (0, ap (λ q. some (q, 0)) (let e : 
 published : Way f1 (v3 sizes) moved_book (1 ∷ []) (left only false)
 published =
     let w : View = v3 sizes in let drew : Work = trying (1 ∷ []) ((2, 3) ∷ []) in
-    let h1 : Way f1 w book only (trying (1 ∷ []) []) = tried sizes opening_world (dealer sizes 2) [] [] (omega arith)
+    let h1 : Way f1 w (book sizes) only (trying (1 ∷ []) []) =
+    tried sizes opening_world (dealer sizes 2) [] [] (omega arith)
     (no_way sizes (omega arith) (omega arith) (omega arith)) in
     let h2 : Way f1 w drafted_book only drew = first_beside h1 drafted_book only drew
     (events.draws (empty_leaf ∷ [])) (machine.draw 1 (empty_leaf ∷ []) w (trying (1 ∷ []) []) (me h1)) in

@@ -54,8 +54,8 @@ after f i y j = cond (j == i) y (f j)
 abbrev pub f0 : ℕ → ℕ
 f0 = after (λ j. 0) 2056 1
 
-abbrev pub book : List Entry
-book = opening (opening_ref 0)
+abbrev pub book : Sizes → List Entry
+book k = opening k.readers (opening_ref 0)
 
 abbrev pub only : List ℕ
 only = 0 ∷ []
@@ -169,7 +169,7 @@ module _ (k : Sizes) (some_reader : 0 < k.readers) (few : k.readers ≤ max_seat
     elsewhere : (i : ℕ) → i < first_slot + k.slots → i ≢ 2056 → get_or laid.words i 0 ≡ f0 i
     elsewhere i lt ne = zero_at i lt ne ∙ ap (λ b. cond b 1 0) (sym (ne_eqb i 2056 ne))
 
-  abbrev pub no_way : Way k start f0 start.views book only start.works
+  abbrev pub no_way : Way k start f0 start.views (book k) only start.works
   no_way = record { words = laid.words; are = start_words; events = []; runs = refl }
 
 -- the views of the first reader: as the machine opens, after it pinned, after it settled, after it retired the slot z,
@@ -233,19 +233,20 @@ module _ (k : Sizes) (start : World) (dealer : View) (views : List View) (works 
   My = First k start dealer views works
 
   -- It pins the epoch 0, loads the head, begins a try, and takes and settles the slot 1
-  abbrev pub tried : 1 < k.slots → My f0 (v0 k) book only no_work → My f1 (v3 k) book only (trying (1 ∷ []) [])
+  abbrev pub tried : 1 < k.slots → My f0 (v0 k) (book k) only no_work → My f1 (v3 k) (book k) only (trying (1 ∷ []) [])
   tried two_slots h0 =
       let loaded : Work = record { commits = seen; try = no_try } in
       let w1 : View = v1 k in let w2 : View = v2 k in let w3 : View = with_taken w2 1 in
-      let h1 : My (after f0 8 1) w1 book only no_work = first_on h0 8 0 1 w1 (omega arith) refl
+      let h1 : My (after f0 8 1) w1 (book k) only no_work = first_on h0 8 0 1 w1 (omega arith) refl
       (table.store_pin 0 0 (omega arith) (omega arith)) (λ n. n) in
-      let h2 : My (after (after f0 8 1) 0 0) w2 book only no_work =
+      let h2 : My (after (after f0 8 1) 0 0) w2 (book k) only no_work =
       first_on h1 0 0 0 w2 (omega arith) refl (table.load_epoch 0) tt in
-      let h3 : My (after (after f0 8 1) 0 0) w2 book only loaded =
-      first_beside h2 book only loaded events.loads_head (machine.load_head 1 w2 no_work (me h2) (0, refl)) in
-      let h4 : My (after (after f0 8 1) 0 0) w2 book only (trying [] []) = first_beside h3 book only (trying [] [])
-      events.begins (machine.begin 1 w2 loaded (me h3) (0, refl) (λ n. n)) in
-      let h5 : My (after (after (after f0 8 1) 0 0) 2057 4) w3 book only (trying [] []) =
+      let h3 : My (after (after f0 8 1) 0 0) w2 (book k) only loaded =
+      first_beside h2 (book k) only loaded events.loads_head (machine.load_head 1 w2 no_work (me h2) (0, refl)) in
+      let h4 : My (after (after f0 8 1) 0 0) w2 (book k) only (trying [] []) =
+      first_beside h3 (book k) only (trying [] []) events.begins
+      (machine.begin 1 w2 loaded (me h3) (0, refl) (λ n. n)) in
+      let h5 : My (after (after (after f0 8 1) 0 0) 2057 4) w3 (book k) only (trying [] []) =
       first_on h4 2057 0 4 w3 (omega arith) refl (table.take 1 (omega arith) two_slots) tt in
       first_on h5 2057 4 1 (v3 k) (omega arith) refl (table.settle 1 (inl refl)) tt
 

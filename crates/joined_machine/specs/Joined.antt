@@ -106,7 +106,7 @@ with_lost a = record a { try = ended (slots_of a.try) false }
 -- after the seat id moved the head by this change
 abbrev pub moved_to : World → ℕ → Work → Commit → Commit → Change → World
 moved_to s id a old new change = record (put s id (with_won a old new)) {
-  log = s.log ++ moved (Some id) new.at (Some change) ∷ [];
+  log = s.log ++ moved (Some id) new.at change ∷ [];
   reached = new.slots;
 }
 
@@ -167,7 +167,7 @@ pub record Opens (k : Sizes) (s : World) : Type 0 where
   pub dealt : (v : View) → get_elem? s.views 0 ≡ some v → v.next ≡ length s.views
   pub views : (j : ℕ) (v : View) → get_elem? s.views j ≡ some v → IsIdle k j v
   pub works : s.works ≡ replicate (length s.views) no_work
-  -- the book opens with two drafted nodes, and a move to the second, which has the stamp 1
+  -- the book opens for the readers' seats with two drafted nodes, and a move to the second, which has the stamp 1
   pub at : Ref
-  pub book : s.log ≡ opening at
+  pub book : s.log ≡ opening k.readers at
   pub stamp : stamp_of at ≡ 1

@@ -53,6 +53,7 @@ record_still : (es : List Entry) → length (filter is_move es) ≡ 0 → record
 record_still [] h = refl
 record_still (v.Draft d ∷ es) h = record_still es h
 record_still (v.Move m ∷ es) h = absurd (let e : suc (length (filter is_move es)) ≡ 0 = h in omega (arith, e))
+record_still (v.Opening o ∷ es) h = absurd (let e : suc (length (filter is_move es)) ≡ 0 = h in omega (arith, e))
 
 -- how often the head was moved
 abbrev moves : List Entry → ℕ
@@ -83,6 +84,11 @@ own_within (Some j) (e ∷ es) = by e (key_of e == suc j) (own_within (Some j) e
         let g : suc (length (filter is_move (mine (suc j) es)))
         ≤ suc (length (filter is_move es)) = omega (arith, k) in g
     by (v.Move m) false le = let k : length (filter is_move (mine (suc j) es)) ≤ length (filter is_move es) = le in
+        let g : length (filter is_move (mine (suc j) es)) ≤ suc (length (filter is_move es)) = omega (arith, k) in g
+    by (v.Opening o) true le = let k : length (filter is_move (mine (suc j) es)) ≤ length (filter is_move es) = le in
+        let g : suc (length (filter is_move (mine (suc j) es)))
+        ≤ suc (length (filter is_move es)) = omega (arith, k) in g
+    by (v.Opening o) false le = let k : length (filter is_move (mine (suc j) es)) ≤ length (filter is_move es) = le in
         let g : length (filter is_move (mine (suc j) es)) ≤ suc (length (filter is_move es)) = omega (arith, k) in g
     by (v.Draft d) true le = le
     by (v.Draft d) false le = le

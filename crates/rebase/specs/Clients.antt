@@ -1,5 +1,6 @@
 -- What a client is, and what its calls leave of it. This project's own words.
-use Rattle.std.specs.Prelude.{ℕ, ◌≡◌, ◌⊎◌, true, List, [], ◌∷◌, ◌++◌, None, map, reverse}
+use Rattle.std.specs.Prelude.{ℕ, ◌≡◌, ◌⊎◌, ◌<◌, ◌-◌, true, List, [], ◌∷◌, ◌++◌, None, Some, length, map, reverse}
+use Rattle.std.specs.Prelude.{slice_index_or}
 use Rattle.std.specs.List.{All}
 use Rattle.group_history.specs.declared.refusals.Refusal.{Refusal}
 use Rattle.group_history.specs.declared.refusals.Refusal.TheVariants as refusal
@@ -7,8 +8,10 @@ use Rattle.group_history.specs.Map.{Bytes}
 use Rattle.group_history.specs.Meaning.{Meanings}
 use Rattle.group_history.specs.State.{last_id}
 use Rattle.push_body.specs.declared.identities.Identity.{Identity}
+use Rattle.logbook.specs.Pages.{Book}
+use Rattle.head_word.specs.declared.entry.Entry.{Entry}
 use Rattle.head_word.specs.Books.{opening, opening_ref}
-use Rattle.reader_claims.specs.declared.view.Sizes.{Sizes}
+use Rattle.head_word.specs.Marks.{known}
 use Rattle.chunk_slots.specs.Seats.{IsIdle, IsOpening, IsPinned}
 use Rattle.commit_graph.specs.Seats.{GroupId, HasLooked, IsSameSeat, IsSeatOf, Seated, is_held}
 use Rattle.answered.specs.Answered.{IsAnswered, IsLeft}
@@ -26,12 +29,18 @@ grouped group identity = record { group = group; identity = identity }
 abbrev pub AreSeatsOf : GroupId → List Seated → Type 0
 AreSeatsOf group seats = All (IsSeatOf group) seats
 
--- The seats of a group that was just opened: each has seen the opening of its book, and no more. Where slots are used
--- again, one seat took two slots and settled them for the opening's nodes, and no seat did anything else to slots.
-pub record AreOpening (reused : Type 0) (sizes : Sizes) (seats : List Seated) : Type 0 where
+-- the marks of these seats at a book that was opened for n, of which each has seen this much: the last one is number 0
+abbrev pub AreNumbered : Book → List Entry → ℕ → List Seated → Type 0
+AreNumbered book log n seats = (i : ℕ) (d : Seated) → i < length seats
+    → (slice_index_or seats i d).mark ≡ known book log (Some (n - 1 - i))
+
+-- The seats of a group that was just opened for so many: each has seen the opening of its book, and no more, and they
+-- are numbered. Where slots are used again, one seat took two slots and settled them for the opening's nodes, and no
+-- seat did anything else to slots.
+pub record AreOpening (reused : Type 0) (count : ℕ) (group : GroupId) (seats : List Seated) : Type 0 where
   pub commit : ℕ
-  pub seen : All (λ seat. seat.mark.log ≡ opening (opening_ref commit)) seats
-  pub slots : reused → IsOpening sizes (reverse (map (λ seat. seat.view) seats)) commit
+  pub marks : AreNumbered group.book (opening count (opening_ref commit)) count seats
+  pub slots : reused → IsOpening group.table.sizes (reverse (map (λ seat. seat.view) seats)) commit
 
 -- the seats of a group that no client has, and how many there is room for
 pub record SeatRow : Type 0 where

@@ -45,7 +45,7 @@ fn open_shared<M: Means, S: Store<M> + Drop>(
     ensures seats { IfOk result (λ made. AreSeatsOf made.0 made.1.free) }
     ensures sizes { S.reused → IfOk result
         (λ made. made.0.table.sizes ≡ record { readers = seats; slots = slots }) }
-    ensures opening { IfOk result (λ made. AreOpening S.reused made.0.table.sizes made.1.free) }
+    ensures opening { IfOk result (λ made. AreOpening S.reused seats made.0 made.1.free) }
     ensures err { IfErr result (λ e. (e ≡ refusal.NoMemory) ⊎ (S.reused × ((e ≡ refusal.Busy) ⊎ (e ≡ refusal.Full)))) }
 {
     let (store, claimed, head, marks) = S::open(alloc, parts, slots, seats)?;
@@ -80,7 +80,7 @@ impl<M: Means + Drop, S: Store<M> + Drop> Group<M, S> {
         ensures seats { IfOk result (λ made. AreSeatsOf made.0.group made.1.free) }
         ensures sizes { S.reused → IfOk result
             (λ made. made.0.group.table.sizes ≡ record { readers = config.seats; slots = config.slots }) }
-        ensures opening { IfOk result (λ made. AreOpening S.reused made.0.group.table.sizes made.1.free) }
+        ensures opening { IfOk result (λ made. AreOpening S.reused config.seats made.0.group made.1.free) }
         ensures err { IfErr result (λ e. (e ≡ refusal.NoMemory)
             ⊎ (S.reused × ((e ≡ refusal.Busy) ⊎ (e ≡ refusal.Full)))) }
     {

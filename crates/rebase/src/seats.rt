@@ -2,10 +2,9 @@
 //!
 //! A group has as many seats as clients may use it at a time. A seat claims slots of the group's store, and
 //! bears a number of the group's book. One that is out of use has no pin and no taken slot.
-ghost use Rattle.std.specs.Prelude.{◌≡◌, ◌<◌, ◌≤◌, [], ◌∷◌, ◌++◌, List, length, map, reverse, IfOk, IfErr};
+ghost use Rattle.std.specs.Prelude.{◌≡◌, ◌<◌, ◌≤◌, [], ◌∷◌, ◌++◌, length, map, reverse, IfOk, IfErr};
 ghost use Rattle.std.specs.List.{All};
 ghost use Rattle.group_history.specs.declared.refusals.Refusal.TheVariants as refusal;
-ghost use Rattle.head_word.specs.declared.entry.Entry.{Entry};
 ghost use Rattle.head_word.specs.Marks.{HasSeat};
 ghost use Rattle.chunk_slots.specs.Seats.{IsIdle};
 ghost use Rattle.rebase.specs.Clients.{AreSeatsOf};
@@ -69,8 +68,7 @@ pub(crate) fn seat_all<M: Means, S: Slots<M>>(
     requires marks { All (HasSeat shared.now.book) marks.items }
     ensures count { IfOk result (λ all. length all.free ≡ length marks.items) }
     ensures seats { IfOk result (λ all. AreSeatsOf shared.now all.free) }
-    ensures seen { (log : List Entry) → All (λ mark. mark.log ≡ log) marks.items
-        → IfOk result (λ all. All (λ seat. seat.mark.log ≡ log) all.free) }
+    ensures marks { IfOk result (λ all. marks.items ≡ reverse (map (λ seat. seat.mark) all.free)) }
     ensures views { IfOk result (λ all. map S.view claimed.items ≡ reverse (map (λ seat. seat.view) all.free)) }
 {
     let (mut claimed, mut marks) = (claimed, marks);

@@ -24,7 +24,8 @@ use Rattle.group_history.proofs.Spellings.{segment-stays, version-newest}
 use Rattle.group_history.proofs.TextMaps.{empty_map}
 use Rattle.head_word.specs.declared.entry.Entry.{Entry}
 use Rattle.head_word.specs.declared.lost.Lost.{Lost}
-use Rattle.head_word.specs.Books.{drafted, drawn, next_stamp, opening, StartsOpened, IsChangeFrom}
+use Rattle.head_word.specs.Books.{drafted, drawn, next_stamp, opening, opened_at, seats_of, StartsOpened}
+use Rattle.head_word.specs.Books.{IsChangeFrom}
 use Rattle.test_group.specs.Trials.{no_mutators, bare_pull, SpellsBare}
 use Rattle.head_word.proofs.Books.{drawn_more}
 use Rattle.head_word.proofs.Stepping.{opening_spells, spells_from, starts_from, starts_with}
@@ -33,11 +34,11 @@ use Rattle.head_word.proofs.Stepping.{opening_spells, spells_from, starts_from, 
 empty_root : (log : List Entry) → StartsOpened log → map_in (spelled (drawn log)) 0 ≡ Some finite.empty
 empty_root log starts =
     let begun = starts_with log starts in
+    let first = opening (seats_of log) (opened_at log) in
     let leaf : Segment = record { depth = 1; rows = [] } in
-    let all : drawn (opening begun.0) ++ drawn begun.1.0
-    ≡ drawn log = sym (drawn_more (opening begun.0) begun.1.0) ∙ ap drawn begun.1.1 in
+    let all : drawn first ++ drawn begun.0 ≡ drawn log = sym (drawn_more first begun.0) ∙ ap drawn begun.1 in
     let there : segment_at (drawn log) 0 ≡ Some leaf = subst (λ cs. segment_at cs 0 ≡ Some leaf) all
-    (segment-stays (drawn (opening begun.0)) (drawn begun.1.0) 0 leaf refl) in
+    (segment-stays (drawn first) (drawn begun.0) 0 leaf refl) in
     ap (option_and_then segment_map) there ∙ ap Some empty_map
 
 -- the snapshot as its draft lists it
@@ -82,9 +83,9 @@ pub bare_follows : (log : List Entry) (cookie : Cookie) (base new : Ref) → Sta
     → order_cmp cookie.order order.Null ≡ Greater → SpellsBare log (stamp_of new) cookie
     → IsChangeFrom no_mutators (drawn log) base new (bare_pull cookie)
 bare_follows log cookie base new starts at_opening above spells =
-    let begun = starts_with log starts in
     let known : Spells no_mutators (drawn log) 1 opening_state = spells_from no_mutators
-    (opening begun.0) log 1 opening_state begun.1 (opening_spells no_mutators begun.0) in
+    (opening (seats_of log) (opened_at log)) log 1 opening_state (starts_with log starts)
+    (opening_spells no_mutators (seats_of log) (opened_at log)) in
     record {
       state = opening_state;
       before = subst (λ k. Spells no_mutators (drawn log) k opening_state) (sym at_opening) known;

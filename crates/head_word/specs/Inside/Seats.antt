@@ -2,6 +2,7 @@
 use Rattle.std.specs.Prelude.{ℕ, ◌≡◌, ◌<◌, List, Option, Some, None}
 use Rattle.head_word.specs.declared.entry.Entry.{Entry}
 use Rattle.head_word.specs.declared.mark.Seat.{Seat}
+use Rattle.head_word.specs.Books.{seats_of}
 use Rattle.head_word.specs.Tallies.{key_by, count}
 use Rattle.head_word.specs.Inside.Parts.{keys_of}
 
@@ -10,12 +11,13 @@ abbrev pub number_of : Option Seat → Option ℕ
 number_of None = None
 number_of (Some s) = Some s.number
 
--- the seat's tally is one of this book's, and says how many entries of the seat the book has
+-- the seat is one of this book's, and so is its tally, which says how many entries of the seat the book has
 pub record HasTally (names : List ℕ) (log : List Entry) (s : Seat) : Type 0 where
   pub names_are : s.tally.names ≡ names
   pub key_is : s.tally.key ≡ key_by (Some s.number)
   pub count_is : s.tally.count ≡ count (key_by (Some s.number)) log
   pub within : key_by (Some s.number) < keys_of names
+  pub among : s.number < seats_of log
 
 -- the seat, where there is one, has its tally
 abbrev pub Sits : List ℕ → List Entry → Option Seat → Type 0

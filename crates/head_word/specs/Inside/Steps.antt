@@ -1,11 +1,11 @@
 -- What a step on one of the two words tells its seat.
-use Rattle.std.specs.Prelude.{ℕ, ◌≡◌, ◌==◌, List, [], ◌∷◌, ◌++◌, MatchBool, Option, Some}
+use Rattle.std.specs.Prelude.{ℕ, ◌≡◌, ◌==◌, List, [], ◌∷◌, ◌++◌, MatchBool, Option, Some, None}
 use mathlib.Core.List.{IsPrefix}
 use Rattle.logbook.specs.Pages.{Step, View}
 use Rattle.group_history.specs.Meaning.{Meanings}
 use Rattle.head_word.specs.declared.entry.Answer.{Answer}
 use Rattle.head_word.specs.declared.entry.Entry.{Entry}
-use Rattle.head_word.specs.Books.{opening, IsOpened}
+use Rattle.head_word.specs.Books.{drafted, empty_leaf, opening_snapshot, IsOpened}
 use Rattle.head_word.specs.Tallies.{key_of, count}
 
 -- a step that was taken
@@ -74,8 +74,9 @@ pub record Exchanges (says : List Entry → ℕ) (means : Meanings) (t : Taken) 
   pub opened : IsOpened means t.after
   pub outcome : MatchBool (t.found == t.expected) (Adds says means t) (Misses says t)
 
--- The exchange that opens the book: where nothing was added by no seat before, the book is the opening alone.
+-- The exchange that opens the book: where nothing was added by no seat before, the book is the opening's draft and the
+-- entry that was asked for.
 pub record Opens (t : Taken) : Type 0 where
   pub counts : Answer
   pub counted : t.answer ≡ Some counts
-  pub opened : counts.before ≡ 0 → t.after ≡ opening (record { bits = t.new })
+  pub opened : counts.before ≡ 0 → t.after ≡ drafted None 0 (empty_leaf ∷ opening_snapshot ∷ []) ∷ t.ask ∷ []

@@ -211,10 +211,10 @@ returns-in-Ok-Won-clause-frees g c r =
       };
       own = subst (λ (p : Published). own new.mark ≡ own mid.mark ++ added mid.mark.seat to change p)
           c.in-Ok-Won.field-0-is c.in-Ok-Won.ensures.own
-          ∙ ap (λ (s : Option ℕ). own mid.mark ++ moved s to (Some change) ∷ []) later.seat
-          ∙ ap (λ (es : List Entry). es ++ moved old.mark.seat to (Some change) ∷ []) d.own
+          ∙ ap (λ (s : Option ℕ). own mid.mark ++ moved s to change ∷ []) later.seat
+          ∙ ap (λ (es : List Entry). es ++ moved old.mark.seat to change ∷ []) d.own
           ∙ append_assoc (own old.mark) (drafted_by old.mark.seat d.first d.contents ∷ [])
-          (moved old.mark.seat to (Some change) ∷ []);
+          (moved old.mark.seat to change ∷ []);
       freed = subst (λ (t : ClaimsId). AreFreed t.sizes.slots new.view.reached (map slot_of what.0)
           (drafted (map slot_of refs) [] old.view.deeds) new.view.deeds) (sym c.requires.reading.0.1)
           (subst (λ (xs : List Deed). AreFreed slots new.view.reached (map slot_of what.0) xs new.view.deeds)

@@ -38,7 +38,7 @@ returns-in-Ok-Some-clause-tried g c =
     × Spells means (drawn new.log) (stamp_of at) (after_change s change))) c.in-Ok-Some.field-0-is
     (c.in-Ok-Some.ensures.won s base) in
     let bits : c.in-Ok-Some.at.bits < 2 ^ 64 = search rules in
-    let ids = (record_laws_hold means).ids_follow (record_of log) c.legal.ensures.0.legal in (
+    let ids = (record_laws_hold means).ids_follow (record_of log) c.legal.ensures.opened.0.legal in (
       proposed.0,
       won.0,
       has_last means (drawn old.log) (drawn new.log) c.in-Ok-Some.at s before change bits ids c.requires.asks proposed.0

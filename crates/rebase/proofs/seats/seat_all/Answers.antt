@@ -2,11 +2,11 @@ use Rattle.std.proofs.Common.{◌≡◌, length, map, is_ok, refl, sym, subst, a
 use Rattle.std.proofs.lemmas.List.{length_push}
 use Rattle.std.specs.List.{All}
 use Rattle.std.proofs.lemmas.List.Elements.{All-push}
-use Rattle.head_word.specs.Marks.{HasSeat, Known}
+use Rattle.head_word.specs.Marks.{HasSeat}
 use Rattle.map_chunks.proofs.ListLemmas.{succeeded}
 use Rattle.chunk_slots.specs.Seats.{IsIdle}
 use Rattle.commit_graph.specs.Seats.{IsSeatOf, Seated}
-use Rattle.rebase.proofs.Seating.{handed_on, popped}
+use Rattle.rebase.proofs.Seating.{handed_marks, handed_on, popped}
 use Rattle.rebase.proofs.seats.seat_all.Goals as goal
 
 pub loop-mark-preserved : goal.loop-mark-preserved
@@ -26,20 +26,11 @@ loop-mark-preserved g c =
       same = omega (arith, i.same, s.2, m.2);
       free = subst (All (IsSeatOf c.args.shared.now)) (sym more)
           (All-push (IsSeatOf c.args.shared.now) c.loop-mark.free.items _ i.free (m.1.0, s.1.0));
-      seen = λ log all.
-          let left = i.seen log all in
-          let n = popped (λ (w : Known). w.log ≡ log) c.loop-mark.marks.items c.pop.new.self.items c.pop.result
-          c.in-Some.mark c.pop.ensures.items c.in-Some.is left.0 in (
-            n.0,
-            subst (All (λ (w : Seated). w.mark.log ≡ log)) (sym more)
-                (All-push (λ (w : Seated). w.mark.log ≡ log) c.loop-mark.free.items _ left.1 n.1),
-          );
+      handed = handed_marks c.args.marks.items c.loop-mark.marks.items c.pop.new.self.items c.pop.result c.in-Some.mark
+          c.loop-mark.free.items c.push.new.self.items _ c.pop.ensures.items c.in-Some.is more refl i.handed;
       views = handed_on g.S.Slots.view (λ (w : Seated). w.view) (map g.S.Slots.view c.args.claimed.items)
           c.loop-mark.claimed.items c.pop-in-Some.new.self.items c.pop-in-Some.result c.in-Some-pop.slots
           c.loop-mark.free.items c.push.new.self.items _ c.pop-in-Some.ensures.items c.in-Some-pop.is more refl i.views;
       count = omega (arith, i.count, m.2, ap length more ∙ length_push c.loop-mark.free.items _);
       room = omega (arith, i.room, c.push.ensures.capacity);
     }
-
-pub returns-clause-seen : goal.returns-clause-seen
-returns-clause-seen g c log all = (c.loop-mark.invariant.seen log all).1

@@ -1,8 +1,7 @@
-use Rattle.std.proofs.Common.{◌≡◌, ◌+◌, ◌≤◌, List, ◌++◌, length, map}
+use Rattle.std.proofs.Common.{◌≡◌, ◌+◌, ◌≤◌, ◌++◌, length, map}
 use Rattle.std.specs.Prelude.{reverse}
 use Rattle.std.specs.List.{All}
-use Rattle.head_word.specs.declared.entry.Entry.{Entry}
-use Rattle.head_word.specs.Marks.{HasSeat, Known}
+use Rattle.head_word.specs.Marks.{HasSeat}
 use Rattle.commit_graph.specs.Seats.{Seated}
 use Rattle.chunk_slots.specs.Seats.{IsIdle}
 use Rattle.rebase.specs.Clients.{AreSeatsOf}
@@ -15,8 +14,7 @@ invariant-loop-mark g l = record {
   marks : All (HasSeat l.fn.shared.book) l.marks.items;
   same : length l.claimed.items ≡ length l.marks.items;
   free : AreSeatsOf l.fn.shared l.free.items;
-  seen : (log : List Entry) → All (λ (m : Known). m.log ≡ log) l.fn.marks.items
-      → All (λ (m : Known). m.log ≡ log) l.marks.items × All (λ (s : Seated). s.mark.log ≡ log) l.free.items;
+  handed : l.fn.marks.items ≡ l.marks.items ++ reverse (map (λ (s : Seated). s.mark) l.free.items);
   views : map g.S.Slots.view l.fn.claimed.items
       ≡ map g.S.Slots.view l.claimed.items ++ reverse (map (λ (s : Seated). s.view) l.free.items);
   count : length l.marks.items + length l.free.items ≡ length l.fn.marks.items;

@@ -9,5 +9,5 @@ pub publish-requires-clause-follows : goal.publish-requires-clause-follows
 publish-requires-clause-follows c =
     subst (λ (w : Change). IsChangeFrom no_mutators (drawn c.args.mark.now.log) c.new.result c.args.new w)
     (sym c.in_ok-change.ensures.change)
-    (bare_follows c.args.mark.now.log c.args.cookie.now c.new.result c.args.new c.legal.ensures.1 c.new.ensures.stamp
-    c.in_ok-change.ensures.above c.requires.drawn)
+    (bare_follows c.args.mark.now.log c.args.cookie.now c.new.result c.args.new c.legal.ensures.opened.1
+    c.new.ensures.stamp c.in_ok-change.ensures.above c.requires.drawn)

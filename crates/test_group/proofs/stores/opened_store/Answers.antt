@@ -5,5 +5,5 @@ use Rattle.test_group.proofs.stores.opened_store.Goals as goal
 pub seats_of-requires-clause-marks : goal.seats_of-requires-clause-marks
 seats_of-requires-clause-marks g c κs within =
     let e = c.in_ok-store.ensures in
-    (marks_seated c.in_ok-store.head (opening (opening_ref e.marks.0)) c.args.seats
+    (marks_seated c.in_ok-store.head (opening c.args.seats (opening_ref e.marks.0)) c.args.seats
     c.in_ok-store.marks.items e.marks.1).0

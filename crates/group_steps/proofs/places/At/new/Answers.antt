@@ -11,7 +11,8 @@ invariant_of-result g c =
       record {
         since = c.requires.since;
         base = c.requires.base;
-        ids = (record_laws_hold g.M.Means.means).ids_follow (record_of c.args.seen.now.log) c.legal.ensures.0.legal;
+        ids = (record_laws_hold g.M.Means.means).ids_follow (record_of c.args.seen.now.log)
+            c.legal.ensures.opened.0.legal;
         low = low;
       },
     )
@@ -21,6 +22,7 @@ returns-clause-is g c =
     let low = stamp-low c.args.commit (search rules) in record {
       since = c.requires.since;
       base = c.requires.base;
-      ids = (record_laws_hold g.M.Means.means).ids_follow (record_of c.args.seen.now.log) c.legal.ensures.0.legal;
+      ids = (record_laws_hold g.M.Means.means).ids_follow (record_of c.args.seen.now.log)
+          c.legal.ensures.opened.0.legal;
       low = low;
     }

@@ -1,4 +1,4 @@
-use Rattle.std.proofs.Common.{◌≡◌, ◌+◌, ◌≤◌, ◌++◌, [], ◌∷◌, sym, ◌∙◌, ap, subst, Some, Option, suc, ℕ, Bool}
+use Rattle.std.proofs.Common.{◌≡◌, ◌+◌, ◌≤◌, ◌++◌, [], ◌∷◌, sym, ◌∙◌, ap, subst, Some, Option, suc, ℕ, Bool, arith}
 use Rattle.std.proofs.Common.{if◌then◌else◌, MatchBool, nat_eq}
 use Rattle.group_history.specs.Refs.{stamps}
 use Rattle.head_word.specs.declared.entry.Entry.{Entry}
@@ -33,7 +33,8 @@ compare_exchange-found-requires g c =
       offer.0 ∙ sits.names_are,
       rw (ap (λ w. w.key) words, pen.1, ask_is, offer.3, sym asked.2)
           (draft_moves g.M.Means.means c.mark.inside.seen.log
-          (Some c.in-Some.seat.number) asked.0 c.args.first c.mark.invariant.0.1 after room),
+          (Some c.in-Some.seat.number) asked.0 c.args.first c.mark.invariant.0.1
+          (omega arith, omega (arith, sits.among)) after room),
     )
 
 pub returns-clause-own : goal.returns-clause-own

@@ -1,5 +1,5 @@
 use Rattle.std.proofs.Common.{◌≡◌, ◌≢◌, ◌++◌, [], ◌∷◌, List, sym, refl, ◌∙◌, ap, subst, Some, Option, ℕ, suc, Bool}
-use Rattle.std.proofs.Common.{if◌then◌else◌, MatchBool, nat_eq}
+use Rattle.std.proofs.Common.{if◌then◌else◌, MatchBool, nat_eq, arith}
 use mathlib.Core.List.{IsPrefix}
 use Rattle.head_word.specs.declared.entry.Entry.{Entry}
 use Rattle.head_word.specs.declared.mark.Seat.{Seat}
@@ -31,7 +31,8 @@ compare_exchange-found-requires g c =
       offer.0 ∙ sits.names_are,
       rw (ap (λ w. w.key) words, pen.1, offer.1, offer.3, c.bits-from.ensures, c.bits-to.ensures)
           (move_moves means c.mark.inside.seen.log
-          (Some c.in-Some.seat.number) c.args.base c.args.new c.args.change.now c.mark.invariant.0.1 follows),
+          (Some c.in-Some.seat.number) c.args.base c.args.new c.args.change.now c.mark.invariant.0.1
+          (omega arith, omega (arith, sits.among)) follows),
     )
 
 pub returns-clause-own : goal.returns-clause-own
@@ -39,7 +40,7 @@ returns-clause-own g c =
     let log = c.mark.inside.seen.log in
     let log' = c.compare_exchange-found.new.seen.log in
     let number = c.in-Some.seat.number in
-    let ask = moved (Some number) c.args.new (Some c.args.change.now) in
+    let ask = moved (Some number) c.args.new c.args.change.now in
     let won : Bool = nat_eq c.compare_exchange-found.result c.bits-from.result in
     let seat_is : c.mark.inside.seat ≡ Some c.in-Some.seat = sym c.take.ensures.value ∙ c.in-Some.is in
     let sits = subst (Sits c.mark.inside.seen.names log) seat_is c.mark.invariant.1 in
@@ -64,16 +65,16 @@ returns-clause-own g c =
     (subst (λ (e : Entry). MatchBool won (Adds head_says g.M.Means.means (record t { ask = e }))
     (Misses head_says (record t { ask = e }))) offer.1 step.7.outcome) in
     let placed = subst (λ (s : Option Seat). mine (suc number) log'
-    ≡ own_of (number_of s) log ++ (if won then moved (number_of s) c.args.new (Some c.args.change.now)
+    ≡ own_of (number_of s) log ++ (if won then moved (number_of s) c.args.new c.args.change.now
     ∷ [] else [])) (sym seat_is) own' in
     subst (λ (m : Known). mine (suc number) log'
-    ≡ own m ++ (if won then moved m.seat c.args.new (Some c.args.change.now) ∷ [] else [])) c.mark.view_is placed
+    ≡ own m ++ (if won then moved m.seat c.args.new c.args.change.now ∷ [] else [])) c.mark.view_is placed
 
 pub returns-clause-added : goal.returns-clause-added
 returns-clause-added g c =
     let means = g.M.Means.means in
     let log' = c.compare_exchange-found.new.seen.log in
-    let ask = moved (Some c.in-Some.seat.number) c.args.new (Some c.args.change.now) in
+    let ask = moved (Some c.in-Some.seat.number) c.args.new c.args.change.now in
     let won : Bool = nat_eq c.compare_exchange-found.result c.bits-from.result in
     let seat_is : c.mark.inside.seat ≡ Some c.in-Some.seat = sym c.take.ensures.value ∙ c.in-Some.is in
     let seated : Some c.in-Some.seat.number
@@ -96,4 +97,4 @@ returns-clause-added g c =
     × (log' ≡ log ++ ask ∷ [])) (last_move log' ≢ c.args.base)) c.mark.view_is told in
     subst (λ (s : Option ℕ). MatchBool won
     ((log : List Entry) × IsPrefix c.args.mark.now.log log × IsOpened means log × (last_move log ≡ c.args.base)
-    × (log' ≡ log ++ moved s c.args.new (Some c.args.change.now) ∷ [])) (last_move log' ≢ c.args.base)) seated here
+    × (log' ≡ log ++ moved s c.args.new c.args.change.now ∷ [])) (last_move log' ≢ c.args.base)) seated here

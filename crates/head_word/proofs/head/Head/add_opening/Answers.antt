@@ -1,5 +1,4 @@
-use Rattle.std.proofs.Common.{None, refl, sym, ◌∙◌, ap}
-use Rattle.head_word.specs.Books.{moved, nowhere}
+use Rattle.std.proofs.Common.{sym, ◌∙◌, ap}
 use Rattle.head_word.proofs.Stepping.{opens_moves}
 use Rattle.head_word.proofs.head.Head.add_opening.Goals as goal
 
@@ -14,5 +13,5 @@ compare_exchange-requires g c =
       pen.0 ∙ book,
       offer.0 ∙ c.requires.tally.0,
       rw (ap (λ w. w.key) words, pen.1, offer.1, offer.3, c.bits-bits.ensures)
-          (opens_moves g.M.Means.means c.args.seen.now.log (moved None nowhere None) c.args.to refl c.requires.stamp),
+          (opens_moves g.M.Means.means c.args.seen.now.log c.args.seats c.args.to c.requires.stamp),
     )

@@ -1,8 +1,8 @@
-use Rattle.std.proofs.Common.{◌≡◌, sym, ◌∙◌, ap, subst, Some, None, Option, suc}
+use Rattle.std.proofs.Common.{◌≡◌, sym, ◌∙◌, ap, subst, Some, Option, suc, []}
 use mathlib.Core.List.{IsPrefix}
 use Rattle.head_word.specs.declared.entry.Entry.{Entry}
 use Rattle.head_word.specs.declared.mark.Seat.{Seat}
-use Rattle.head_word.specs.Books.{moved, nowhere}
+use Rattle.head_word.specs.Books.{drafted}
 use Rattle.head_word.specs.Tallies.{key_of, count}
 use Rattle.head_word.specs.Marks.{Known, own, own_of}
 use Rattle.head_word.specs.Inside.Seats.{Sits, number_of}
@@ -24,7 +24,7 @@ load-requires g c =
       book,
       offer.0 ∙ (sits.names_are ∙ sym both.1),
       rw (ap (λ w. w.key) words, offer.1, offer.3)
-          (head_counted g.M.Means.means c.learn-2.new.self.log (moved (Some c.in-Some.seat.number) nowhere None)
+          (head_counted g.M.Means.means c.learn-2.new.self.log (drafted (Some c.in-Some.seat.number) 0 [])
           (starts_from c.mark.inside.seen.log c.learn-2.new.self.log both.2 c.mark.invariant.0.1)),
     )
 
@@ -52,7 +52,7 @@ returns-clause-own g c =
     let gain = c.into_gain.ensures in
     let tally = c.regained.ensures in
     let told = tally.3 ∙ count_told c.into_gain.result.about
-    (moved (Some number) nowhere None) c.in-Some.seat.tally.count (gain.1 ∙ (load.4 ∙ offer.2)) in
+    (drafted (Some number) 0 []) c.in-Some.seat.tally.count (gain.1 ∙ (load.4 ∙ offer.2)) in
     let counted = subst (λ (e : Entry). c.load.new.offer.state
     ≡ Some (answer (count (key_of e) log') (count (key_of e) log'))) offer.1 load.6.1.counted in
     let pre = prefix_trans log c.learn-2.new.self.log log' c.learn-2.ensures.2 load.5 in

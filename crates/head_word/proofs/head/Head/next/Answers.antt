@@ -1,7 +1,7 @@
-use Rattle.std.proofs.Common.{◌≡◌, sym, ◌∙◌, ap, subst, Some, None, Option, suc}
+use Rattle.std.proofs.Common.{◌≡◌, sym, ◌∙◌, ap, subst, Some, Option, suc, []}
 use Rattle.head_word.specs.declared.entry.Entry.{Entry}
 use Rattle.head_word.specs.declared.mark.Seat.{Seat}
-use Rattle.head_word.specs.Books.{moved, nowhere}
+use Rattle.head_word.specs.Books.{drafted}
 use Rattle.head_word.specs.Tallies.{key_of, count}
 use Rattle.head_word.specs.Marks.{Known, own, own_of}
 use Rattle.head_word.specs.Inside.Seats.{Sits, number_of}
@@ -22,7 +22,7 @@ load-next-requires g c =
       offer.0 ∙ sits.names_are,
       rw (ap (λ w. w.key) words, offer.1, offer.3)
           (drafts_counted g.M.Means.means c.mark.inside.seen.log
-          (moved (Some c.in-Some.seat.number) nowhere None) c.mark.invariant.0.1),
+          (drafted (Some c.in-Some.seat.number) 0 []) c.mark.invariant.0.1),
     )
 
 pub returns-clause-own : goal.returns-clause-own
@@ -37,7 +37,7 @@ returns-clause-own g c =
     let gain = c.into_gain.ensures in
     let tally = c.regained.ensures in
     let told = tally.3 ∙ count_told c.into_gain.result.about
-    (moved (Some number) nowhere None) c.in-Some.seat.tally.count (gain.1 ∙ (load.4 ∙ offer.2)) in
+    (drafted (Some number) 0 []) c.in-Some.seat.tally.count (gain.1 ∙ (load.4 ∙ offer.2)) in
     let counted = subst (λ (e : Entry). c.load-next.new.offer.state
     ≡ Some (answer (count (key_of e) log') (count (key_of e) log'))) offer.1 load.6.1.counted in
     own_same (suc number) c.in-Some.seat.tally.count log log' load.5 sits.count_is c.into_gain.result.answer

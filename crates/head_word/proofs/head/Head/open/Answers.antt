@@ -19,7 +19,7 @@ pub seat_all-requires-clause-opened : goal.seat_all-requires-clause-opened
 seat_all-requires-clause-opened g c = (
   c.new.result,
   c.add_opening.ensures.opened,
-  opening_book g.M.Means.means c.new.result c.new.ensures.stamp,
+  opening_book g.M.Means.means c.args.seats c.new.result c.new.ensures.stamp,
 )
 
 pub returns : goal.returns
