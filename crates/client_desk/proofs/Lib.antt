@@ -5,6 +5,7 @@ mod Joining
 mod Keeping
 mod Moving
 mod Numbers
+pub mod Remaining
 mod Staying
 mod Telling
 mod Waits

@@ -20,10 +20,12 @@ use Rattle.script_parser.specs.Words.{word, more, is_number, is_ticket_name}
 use Rattle.script_parser.specs.Words.{text as text_of}
 use Rattle.script_parser.specs.Context.{Context, Lines, nothing_said, place_of}
 use Rattle.script_parser.specs.Header.{group_line, profile_line, schema_line, slots_line, client_line, header_line}
+use Rattle.script_parser.specs.Header.{with_client}
 use Rattle.script_parser.specs.Commands.{Told, phase_line, get_line, has_line, scan_words, with_scan, scan_line}
 use Rattle.script_parser.specs.Commands.{begin_line, end_line, watch_line, poll_line, mutate_line, learn_line}
 use Rattle.script_parser.specs.Commands.{bare_command, told_bare, bare_line, look_line, named_command, command_of}
-use Rattle.script_parser.specs.Commands.{changed_at, with_line, said_by, command_at, command_line}
+use Rattle.script_parser.specs.Commands.{with_line, said_by, command_at, command_line}
+use Rattle.script_parser.specs.Names.{changed_at, noted, number_made}
 use Rattle.script_parser.specs.Faults.{is_skipped, words_line, said_with, said_after, lines_of, said_in}
 use Rattle.script_parser.specs.Faults.{line_of_bad_byte, script_said}
 use Rattle.script_parser.specs.Scripts.{LearnsWithin}
@@ -79,7 +81,7 @@ unfolding end_line
 end_line-sound c client rest sound = search (rules, IfOk-if)
 
 -- tickets and watches are of no matter
-Sound-made : (c : Context) (made : List (ℕ × Bytes)) → Sound c → Sound (record c { tickets = made })
+Sound-made : (c : Context) (made : List (List Bytes)) → Sound c → Sound (record c { tickets = made })
 Sound-made c made sound = record {
   each_client = sound.each_client;
   seats = sound.seats;
@@ -87,7 +89,7 @@ Sound-made c made sound = record {
   learnt = sound.learnt;
 }
 
-Sound-watched : (c : Context) (made : List (ℕ × Bytes)) → Sound c → Sound (record c { watches = made })
+Sound-watched : (c : Context) (made : List (List Bytes)) → Sound c → Sound (record c { watches = made })
 Sound-watched c made sound = record {
   each_client = sound.each_client;
   seats = sound.seats;
@@ -99,11 +101,12 @@ watch_line-sound : (c : Context) (client : ℕ) (rest : Option Bytes) → Sound 
     → IfOk (watch_line c client rest) SoundWith
 unfolding watch_line
 watch_line-sound c client rest sound =
-    let name = word (text_of rest) in let made = c.watches ++ (client, name) ∷ [] in
+    let name = word (text_of rest) in
+    let made = noted client name c.watches in let number = number_made client name c.watches in
     IfOk-if (is_some rest && is_ticket_name name)
-    (with_scan (λ scan. (record c { watches = made }, command.Watch name scan)) (scan_words (more (text_of rest))))
+    (with_scan (λ scan. (record c { watches = made }, command.Watch number scan)) (scan_words (more (text_of rest))))
     (Err text.BadWords) SoundWith
-    (λ is. with_scan-sound (λ scan. (record c { watches = made }, command.Watch name scan))
+    (λ is. with_scan-sound (λ scan. (record c { watches = made }, command.Watch number scan))
     (scan_words (more (text_of rest))) (λ scan. (Sound-watched c made sound, tt))) (λ other. tt)
 
 begin_line-sound : (c : Context) (client : ℕ) (rest : Option Bytes) → Sound c
@@ -249,14 +252,14 @@ unfolding slots_line
 slots_line-sound c rest sound = search (rules, IfOk-if, Sound-slots)
 
 -- a client more, before the first phase
-Sound-client : (c : Context) (client : Bytes × Bytes) → Sound c → c.phases ≡ []
-    → nat_lt (length c.clients) max_seats ≡ true → Sound (record c { clients = c.clients ++ client ∷ [] })
-Sound-client c client sound before room =
-    let many = length (c.clients ++ client ∷ []) in
+Sound-client : (c : Context) (name id : Bytes) → Sound c → c.phases ≡ []
+    → nat_lt (length c.clients) max_seats ≡ true → Sound (with_client name id c)
+Sound-client c name id sound before room =
+    let many = length (c.clients ++ (name, id) ∷ []) in
     let below : length c.clients < max_seats = ltb-true _ _ room in
     record {
       each_client = subst (All (λ (phase : List Lines). length phase ≡ many)) (sym before) (All-nil _);
-      seats = omega (arith, length-append c.clients (client ∷ []), below);
+      seats = omega (arith, length-append c.clients ((name, id) ∷ []), below);
       slots = sound.slots;
       learnt = subst (All (All (LearnWithin many))) (sym before) (All-nil _);
     }

@@ -5,7 +5,7 @@ use Rattle.std.proofs.lemmas.List.{length-map}
 use Rattle.std.proofs.lemmas.List.Elements.{All-weaker}
 use Rattle.std.proofs.lemmas.List.FromFn.{length-map-range_with_len}
 use Rattle.group_history.specs.Refs.{max_seats}
-use Rattle.script_parser.specs.declared.script.Parser.{Parser}
+use Rattle.script_parser.specs.declared.parser.Parser.{Parser}
 use Rattle.script_parser.specs.Context.{Lines}
 use Rattle.script_parser.specs.Inside.Parsing.{context_of}
 use Rattle.script_parser.specs.Scripts.{client_said, lines_at, phase_said, IsChecked}

@@ -14,9 +14,10 @@ use Rattle.script_parser.specs.declared.faults.ScriptFault.{ScriptFault}
 use Rattle.script_parser.specs.declared.faults.ScriptFault.TheVariants as text
 use Rattle.script_parser.specs.declared.script.Asked.{Asked}
 use Rattle.script_parser.specs.declared.script.Asked.TheVariants as asked
-use Rattle.script_parser.specs.declared.script.Parser.{Parser}
+use Rattle.script_parser.specs.declared.parser.Parser.{Parser}
 use Rattle.script_parser.specs.Context.{Context, Lines}
-use Rattle.script_parser.specs.Commands.{changed_at, with_line}
+use Rattle.script_parser.specs.Commands.{with_line}
+use Rattle.script_parser.specs.Names.{changed_at}
 use Rattle.script_parser.specs.Faults.{said_with}
 use Rattle.script_parser.specs.Kept.{IsInRange, bare, new_phase, without_lines}
 use Rattle.script_parser.specs.Reading.{TakesAs, bytes_said_with, with_asked}

@@ -1,4 +1,5 @@
 mod Lists
+mod Numbering
 mod Changes
 mod Parts
 mod Needs

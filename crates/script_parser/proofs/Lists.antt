@@ -1,11 +1,10 @@
 -- Searches in a list of views, and the first byte of a text.
-use Rattle.std.proofs.Common.{Option, Some, None, is_some, ◌≡◌, ◌≢◌, ◌<◌, ℕ, Bool, true, false, ◌&&◌, ◌==◌, not, List}
-use Rattle.std.proofs.Common.{[], ◌∷◌, length, map, get_or, slice_index, refl, ap, subst, ◌∙◌, arith}
+use Rattle.std.proofs.Common.{Option, Some, None, is_some, ◌≡◌, ◌≢◌, ◌<◌, ℕ, Bool, false, ◌&&◌, ◌==◌, not, List}
+use Rattle.std.proofs.Common.{[], ◌∷◌, map, slice_index, refl, ap, arith}
 use Rattle.std.proofs.lemmas.Bool.{ne_eqb}
 use Rattle.std.proofs.lemmas.List.{length-map}
-use Rattle.std.proofs.lemmas.List.Folds.{list_any_at}
 use Rattle.std.specs.Char.{is_ascii_digit}
-use Rattle.std.specs.List.{prefix_len, position, list_any, list_all}
+use Rattle.std.specs.List.{prefix_len, position, list_all}
 use Rattle.std.specs.Str.{all_ascii_digits}
 
 prefix_len-map : {X Y : Type 0} (p : Y → Bool) (f : X → Y) (xs : List X)
@@ -17,18 +16,6 @@ prefix_len-map p f (x ∷ xs) = rw (prefix_len-map p f xs)
 pub position-map : {X Y : Type 0} (p : Y → Bool) (f : X → Y) (xs : List X)
     → position p (map f xs) ≡ position (λ x. p (f x)) xs
 position-map p f xs = rw (prefix_len-map (λ y. not (p y)) f xs, length-map xs f)
-
--- some view passes where some value does
-pub list_any-map : {X Y : Type 0} (p : Y → Bool) (f : X → Y) (xs : List X)
-    → list_any p (map f xs) ≡ list_any (λ x. p (f x)) xs
-list_any-map p f [] = refl
-list_any-map p f (x ∷ xs) = rw (list_any-map p f xs)
-
--- a value that stands somewhere, and whose view passes, settles it
-pub list_any-noted : {X Y : Type 0} (p : Y → Bool) (f : X → Y) (xs : List X) (i : ℕ) (x : X) → i < length xs
-    → x ≡ get_or xs i x → p (f x) ≡ true → list_any p (map f xs) ≡ true
-list_any-noted p f xs i x within at is = list_any-map p f xs ∙ list_any_at (λ y. p (f y)) xs i x within
-    (subst (λ y. p (f y) ≡ true) at is)
 
 -- the test of each byte for a digit
 pub all_digits : (bs : List ℕ) → list_all is_ascii_digit bs ≡ all_ascii_digits bs

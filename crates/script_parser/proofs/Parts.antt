@@ -8,7 +8,7 @@ use Rattle.std.proofs.lemmas.List.Quantifiers.{position-Some}
 use Rattle.std.specs.List.{list_any, position, position_from, range_with_len}
 use Rattle.script_parser.specs.declared.script.Part.{Part}
 use Rattle.script_parser.specs.declared.script.Command.{Command}
-use Rattle.script_parser.specs.Commands.{changed_at}
+use Rattle.script_parser.specs.Names.{changed_at}
 use Rattle.script_parser.specs.Scripts.{line_said, lines_at}
 
 -- PLACES

@@ -1,8 +1,7 @@
 -- The lines from the first phase on: what each needs, each need with the fault of a line that doesn't meet it, and
 -- what it says. Where a line has several faults, the first need that isn't met tells.
-use Rattle.std.specs.Prelude.{codes, ℕ, zero, suc, ◌^◌, ◌-◌, Bool, ◌&&◌, ◌==◌, List, [], ◌∷◌, ◌++◌, length, replicate}
+use Rattle.std.specs.Prelude.{codes, ℕ, ◌^◌, ◌-◌, ◌&&◌, List, [], ◌∷◌, ◌++◌, length, replicate}
 use Rattle.std.specs.Prelude.{Option, Some, None, is_some, is_none, unwrap_or, Result, Ok, Err, if◌then◌else◌}
-use Rattle.std.specs.List.{list_any}
 use Rattle.std.specs.Str.Parse.{digits_value}
 use Rattle.group_history.specs.declared.scans.Scan.{Scan}
 use Rattle.group_history.specs.Map.{Bytes, same_text}
@@ -12,6 +11,7 @@ use Rattle.script_parser.specs.declared.script.Command.{Command}
 use Rattle.script_parser.specs.declared.script.Command.TheVariants as command
 use Rattle.script_parser.specs.declared.script.Query.TheVariants as query
 use Rattle.script_parser.specs.Context.{Context, Lines, place_of, meets}
+use Rattle.script_parser.specs.Names.{changed_at, number_of, noted, number_made}
 use Rattle.script_parser.specs.Words.{word, more, text, is_word, begins_with_word, is_ticket_name, is_client_name}
 use Rattle.script_parser.specs.Words.{is_number, is_start, is_limit, is_json, json_said, prefix_said, start_said}
 use Rattle.script_parser.specs.Words.{limit_said}
@@ -62,37 +62,38 @@ scan_line c rest = with_scan (λ scan. (c, command.Query (query.Scan scan))) (sc
 unfoldable pub watch_line : Context → ℕ → Option Bytes → Told
 watch_line c client rest =
     let name = word (text rest) in
+    let number = number_made client name c.watches in
     if is_some rest && is_ticket_name name then with_scan
-    (λ scan. (record c { watches = c.watches ++ (client, name) ∷ [] }, command.Watch name scan))
+    (λ scan. (record c { watches = noted client name c.watches }, command.Watch number scan))
     (scan_words (more (text rest)))
     else Err fault.BadWords
 
 -- `begin T`
 unfoldable pub begin_line : Context → ℕ → Option Bytes → Told
 begin_line c client rest =
-    meets ((is_some rest, fault.BadWords) ∷ (is_ticket_name (text rest), fault.BadWords) ∷ [])
-    (record c { tickets = c.tickets ++ (client, text rest) ∷ [] }, command.Begin (text rest))
-
--- whether a line of this client made the ticket, or the watch
-unfoldable pub is_made : ℕ → Bytes → List (ℕ × Bytes) → Bool
-is_made client name all = list_any (λ made. (made.0 == client) && same_text made.1 name) all
+    meets ((is_some rest, fault.BadWords) ∷ (is_ticket_name (text rest), fault.BadWords) ∷ []) (
+      record c { tickets = noted client (text rest) c.tickets },
+      command.Begin (number_made client (text rest) c.tickets),
+    )
 
 -- `end T BODY`
 unfoldable pub end_line : Context → ℕ → Option Bytes → Told
 end_line c client rest =
     let ticket = word (text rest) in
+    let number = number_of client ticket c.tickets in
     meets ((is_some rest, fault.BadWords) ∷ (is_ticket_name ticket, fault.BadWords)
     ∷ (is_some (more (text rest)), fault.BadWords)
-    ∷ (is_made client ticket c.tickets, fault.UnknownName)
+    ∷ (is_some number, fault.UnknownName)
     ∷ [])
-    (c, command.End ticket (text (more (text rest))))
+    (c, command.End (unwrap_or number 0) (text (more (text rest))))
 
 -- `poll W`
 unfoldable pub poll_line : Context → ℕ → Option Bytes → Told
 poll_line c client rest =
+    let number = number_of client (text rest) c.watches in
     meets ((is_some rest, fault.BadWords) ∷ (is_ticket_name (text rest), fault.BadWords)
-    ∷ (is_made client (text rest) c.watches, fault.UnknownName) ∷ [])
-    (c, command.Poll (text rest))
+    ∷ (is_some number, fault.UnknownName) ∷ [])
+    (c, command.Poll (unwrap_or number 0))
 
 -- `mutate TIME MUTATOR ARGS`
 unfoldable pub mutate_line : Context → Option Bytes → Told
@@ -162,12 +163,6 @@ named_command c client name rest =
 unfoldable pub command_of : Context → ℕ → Option Bytes → Told
 command_of c client None = Err fault.UnknownCommand
 command_of c client (Some rest) = named_command c client (word rest) (more rest)
-
--- the value at a place of a list is changed
-abbrev pub changed_at : {X : Type 0} → ℕ → (X → X) → List X → List X
-changed_at i change [] = []
-changed_at zero change (x ∷ xs) = change x ∷ xs
-changed_at (suc i) change (x ∷ xs) = x ∷ changed_at i change xs
 
 -- the line is the last one of the client at this place in the last phase
 unfoldable pub with_line : ℕ → ℕ × Command → List (List Lines) → List (List Lines)

@@ -19,10 +19,11 @@ pub record Context : Type 0 where
   pub clients : List (Bytes × Bytes)
   -- the phases, oldest first; in each the lines of each client, in the order of the client lines
   pub phases : List (List Lines)
-  -- the tickets that are made, each with the place of its client
-  pub tickets : List (ℕ × Bytes)
-  -- and the watches
-  pub watches : List (ℕ × Bytes)
+  -- the names of the tickets that the lines of each client made, in the order of the client lines; each once, oldest
+  -- first
+  pub tickets : List (List Bytes)
+  -- and of the watches
+  pub watches : List (List Bytes)
 
 -- before the first line
 abbrev pub nothing_said : Context

@@ -5,15 +5,20 @@
 //! which fault is the first, is in `specs/`; `docs/SCRIPT.md` says it in words, with usual causes.
 #![tactic(auto)]
 
+mod commands;
 mod faults;
+mod header;
 mod lines;
+mod looks;
 mod names;
+mod parser;
 mod reader;
 mod script;
+mod words;
 
 pub use faults::{Fault, LineFault, ScriptFault};
+pub use parser::read_script;
 pub use reader::LineReader;
 pub use script::{
-    Asked, ClientLine, Command, Header, Line, MutatorCall, Phase, Query, Script, read_script,
-    uuid_text,
+    Asked, ClientLine, Command, Header, Line, MutatorCall, Phase, Query, Script, uuid_text,
 };

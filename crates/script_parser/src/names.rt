@@ -1,113 +1,134 @@
 //! The names under which the lines of a script make tickets, or watches.
 //!
-//! Where a name of a client stands among them is noted, so that it is found at once. What was noted is looked at
-//! (`has`), so it may be anything; and a name that was not found so is looked for among all. A script has one such name
-//! at most, since its line is faulty and the last one that is read.
-ghost use Rattle.std.specs.Prelude.{◌≡◌, ◌==◌, ◌&&◌, true, [], ◌∷◌, ◌++◌, map, OnErr, OnOk};
-ghost use Rattle.group_history.specs.Map.{same_text};
-ghost use Rattle.script_parser.specs.Commands.{is_made};
-ghost use Rattle.script_parser.specs.Inside.Parsing.{made_said};
+//! Names are numbered client by client: 0 is the first that a line of the client made, 1 the next other one. Each is
+//! kept once, in a tree that leads from a name to its number: so a name is found without a walk over all, and a line of
+//! an old name takes no memory. What is found for a name is its place among those of its client, which the model's
+//! invariant says (`IsNumbered`).
+ghost use Rattle.std.specs.Prelude.{◌≡◌, ◌≤◌, ◌<◌, [], ◌∷◌, ◌++◌, length, None, unwrap_or, vec_len, vec_capacity};
+ghost use Rattle.std.specs.Prelude.{IfOk, OnErr, OnOk};
+ghost use Rattle.script_parser.specs.Names.{number_among, with_name, number_of, noted, number_made};
 
-use group_history::{Text, TextMap};
 use std::alloc::{AllocError, Global};
+use std::collections::BTreeMap;
+use std::marker::Model;
 
-/// A ticket or a watch that a line makes.
+/// The names that the lines of one client made.
 #[derive(Drop)]
-pub(crate) struct Made {
-    /// The place of its client.
-    client: usize,
-    name: Text,
+pub(crate) struct ClientNames {
+    numbers: BTreeMap<String, usize>,
 }
 
-impl Made {
-    /// Whether it is one of this client and name.
-    fn is(&self, client: usize, name: &Text) -> bool
-        ensures { result ≡ ((self.now.client == client) && same_text self.now.name name.now) }
+impl Model for ClientNames {
+    ghost use Rattle.std.specs.Prelude.{ℕ, List};
+
+    ghost Value = { List (List ℕ) };
+
+    ghost use Rattle.script_parser.specs.Inside.Names.{names_in, IsNumbered};
+
+    ghost view = { λ n. names_in n.numbers.entries };
+
+    ghost invariant = { λ n. IsNumbered n.numbers };
+}
+
+impl ClientNames {
+    fn new(alloc: Global) -> ClientNames
+        ensures { result ≡ [] }
     {
-        self.client == client && self.name.as_str() == name.as_str()
+        ClientNames {
+            numbers: BTreeMap::new(alloc),
+        }
+    }
+
+    /// The number of a name; none where no line made it.
+    fn number_of(&self, name: &str) -> Option<usize>
+        ensures { result ≡ number_among name.now self.now }
+    {
+        self.numbers.get(name).copied()
+    }
+
+    /// Keeps a new name, under the next number.
+    fn add(&mut self, alloc: Global, name: &str) -> Result<usize, AllocError>
+        requires { number_among name.now self.old ≡ None }
+        ensures number { IfOk result (λ number. number ≡ length self.old) }
+        ensures added { OnOk result (self.new ≡ self.old ++ name.now ∷ []) }
+        ensures left { OnErr result (self.new ≡ self.old) }
+    {
+        let number = self.numbers.len();
+        let name = String::from_str(alloc, name)?;
+        self.numbers.insert(name, number)?;
+        Ok(number)
+    }
+
+    /// Notes that a line made this name, and answers its number.
+    #[tactic(auto, unfolding(crate::specs::Names::with_name))]
+    fn note(&mut self, alloc: Global, name: &str) -> Result<usize, AllocError>
+        ensures number { IfOk result (λ number. number ≡ unwrap_or (number_among name.now self.old) (length self.old)) }
+        ensures noted { OnOk result (self.new ≡ with_name name.now self.old) }
+        ensures left { OnErr result (self.new ≡ self.old) }
+    {
+        match self.number_of(name) {
+            Some(number) => Ok(number),
+            None => self.add(alloc, name),
+        }
     }
 }
 
-/// What the lines so far make.
+/// The names of each client.
 #[derive(Drop)]
 pub(crate) struct Names {
-    alloc: Global,
-    /// In the order of their lines.
-    all: Vec<Made>,
-    /// By the places of clients: where a name stands in `all`.
-    noted: Vec<TextMap<usize>>,
-}
-
-/// Makes room for the notes of so many clients.
-fn widen(noted: &mut Vec<TextMap<usize>>, alloc: Global, clients: usize) -> Result<(), AllocError> {
-    for _client in noted.len()..clients {
-        noted.push(TextMap::new(alloc))?;
-    }
-    Ok(())
+    clients: Vec<ClientNames>,
 }
 
 impl Names {
     pub(crate) fn new(alloc: Global) -> Names
-        ensures { result.all.items ≡ [] }
+        ensures { result.clients.items ≡ [] }
     {
         Names {
-            alloc,
-            all: Vec::new(alloc),
-            noted: Vec::new(alloc),
+            clients: Vec::new(alloc),
         }
     }
 
-    /// Notes where a name of a client will stand.
-    fn note(&mut self, client: usize, name: &Text) -> Result<(), AllocError>
-        ensures { self.new.all ≡ self.old.all }
+    /// Makes room for a client more.
+    pub(crate) fn reserve(&mut self) -> Result<(), AllocError>
+        ensures same { self.new.clients.items ≡ self.old.clients.items }
+        ensures room { OnOk result (vec_len self.new.clients < vec_capacity self.new.clients) }
     {
-        widen(&mut self.noted, self.alloc, client.saturating_add(1))?;
-        let place = self.all.len();
-        if let Some(places) = self.noted.get_mut(client) {
-            places.insert(name.clone()?, place)?;
-        }
+        self.clients.reserve(1)
+    }
+
+    /// Adds a client that has no names. It is refused only where there is no room for it.
+    pub(crate) fn add_client(&mut self, alloc: Global) -> Result<(), AllocError>
+        ensures added { OnOk result (self.new.clients.items ≡ self.old.clients.items ++ [] ∷ []) }
+        ensures left { OnErr result (self.new.clients.items ≡ self.old.clients.items) }
+        ensures full { OnErr result (vec_capacity self.old.clients ≤ vec_len self.old.clients) }
+    {
+        self.clients.push(ClientNames::new(alloc))?;
         Ok(())
     }
 
-    /// Adds one that a line of a client makes.
-    pub(crate) fn add(&mut self, client: usize, name: &Text) -> Result<(), AllocError>
-        ensures made { OnOk result (map made_said self.new.all.items
-            ≡ map made_said self.old.all.items ++ (client, name.now) ∷ []) }
-        ensures left { OnErr result (self.new.all.items ≡ self.old.all.items) }
+    /// The number of a name of the client at a place; none where no line of the client made it.
+    #[tactic(auto, unfolding(crate::specs::Names::number_of))]
+    pub(crate) fn number_of(&self, client: usize, name: &str) -> Option<usize>
+        ensures { result ≡ number_of client name.now self.now.clients.items }
     {
-        self.note(client, name)?;
-        let name = name.clone()?;
-        self.all.push(Made { client, name })?;
-        Ok(())
+        self.clients.get(client)?.number_of(name)
     }
 
-    /// Whether one of this client and name stands where it was noted.
-    fn has_noted(&self, client: usize, name: &Text) -> bool
-        ensures { result ≡ true → is_made client name.now (map made_said self.now.all.items) ≡ true }
+    /// Notes that a line of the client at a place made this name, and answers its number.
+    #[tactic(auto, unfolding(crate::specs::Names::number_made, crate::specs::Names::number_of))]
+    pub(crate) fn note(
+        &mut self,
+        alloc: Global,
+        client: usize,
+        name: &str,
+    ) -> Result<usize, AllocError>
+        ensures number { IfOk result (λ number. number ≡ number_made client name.now self.old.clients.items) }
+        ensures noted { OnOk result (self.new.clients.items ≡ noted client name.now self.old.clients.items) }
+        ensures left { OnErr result (self.new.clients.items ≡ self.old.clients.items) }
     {
-        let Some(places) = self.noted.get(client) else {
-            return false;
-        };
-        let Some(place) = places.get(name) else {
-            return false;
-        };
-        match self.all.get(*place) {
-            Some(made) => made.is(client, name),
-            None => false,
+        match self.clients.get_mut(client) {
+            Some(names) => names.note(alloc, name),
+            None => Ok(0),
         }
-    }
-
-    #[tactic(auto, unfolding(crate::specs::Commands::is_made))]
-    fn has_among_all(&self, client: usize, name: &Text) -> bool
-        ensures { result ≡ is_made client name.now (map made_said self.now.all.items) }
-    {
-        self.all.iter().any(|made| made.is(client, name))
-    }
-
-    /// Whether a line of this client made one of this name.
-    pub(crate) fn has(&self, client: usize, name: &Text) -> bool
-        ensures { result ≡ is_made client name.now (map made_said self.now.all.items) }
-    {
-        self.has_noted(client, name) || self.has_among_all(client, name)
     }
 }

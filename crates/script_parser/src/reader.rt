@@ -1,14 +1,15 @@
 //! A script that is read line by line.
 //!
 //! `LineReader` takes a line and answers what it asks. It keeps what the lines have said, and none of the lines: so its
-//! memory grows with the clients, the tickets and the watches alone, which its type's invariant says (`bare`).
+//! memory grows with the clients and the names of tickets and watches alone, which its type's invariant says (`bare`).
 ghost use Rattle.std.specs.Prelude.{◌≡◌, ◌<◌, length};
 ghost use Rattle.std.proofs.Props.{props};
 ghost use Rattle.script_parser.specs.Kept.{IsInRange, without_lines};
 ghost use Rattle.script_parser.specs.Inside.Parsing.{context_of};
 
 use crate::faults::{LineFault, ScriptFault};
-use crate::script::{Asked, Header, Parser};
+use crate::parser::Parser;
+use crate::script::{Asked, Header};
 use std::alloc::Global;
 
 /// Takes the lines of a script, one after the other, and keeps none.

@@ -1,6 +1,7 @@
-mod Joining
 mod Turns
 mod Openings
-mod Watches
-mod Replying
+mod Seated
+mod Gathering
+mod Telling
 mod Grouping
+mod Sending

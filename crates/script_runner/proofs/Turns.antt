@@ -7,23 +7,24 @@ use Rattle.std.proofs.lemmas.List.Elements.{All-push}
 use Rattle.std.proofs.lemmas.List.Folds.{concat-append}
 use Rattle.std.proofs.lemmas.List.FromFn.{get_or-map-range_with_len}
 use Rattle.std.specs.Global.{Vec}
+use Rattle.std.specs.Prelude.{IfSome}
 use Rattle.std.specs.Io.KnownBytes.{Appends, Keeps}
 use Rattle.std.specs.List.{All, concat}
-use Rattle.logbook.specs.Pages.{Book}
 use Rattle.group_history.specs.Map.{Bytes}
 use Rattle.group_history.specs.Meaning.{Meanings}
 use Rattle.head_word.specs.Marks.{Known}
+use Rattle.rebase.specs.Clients.{Grouped}
 use Rattle.script_runner.specs.declared.phase.Turn.{Turn}
 use Rattle.script_parser.specs.declared.script.Command.{Command}
 use Rattle.script_parser.specs.declared.script.Line.{Line}
 use Rattle.script_parser.specs.declared.script.Phase.{Phase}
-use Rattle.script_runner.specs.Callers.{CanLearn, CanLearnAll, sight_of}
 use Rattle.script_runner.specs.Commanding.{MayPrint, Player}
 use Rattle.script_parser.specs.Context.{Lines}
 use Rattle.script_runner.specs.Phases.{AreTold, AreWritten, IsPhase, all_sights}
 use Rattle.script_runner.specs.Printing.{line_text}
+use Rattle.script_runner.specs.Sights.{CanLearnAll, IsSeenAt}
 use Rattle.script_parser.specs.Scripts.{line_said, lines_at, phase_said}
-use Rattle.script_runner.specs.Inside.Players.{player_of, players_of, standing_of}
+use Rattle.script_runner.specs.Inside.Players.{player_of, players_of}
 use Rattle.script_runner.specs.Inside.Turns.{AreOf, AreOfOneGroup, IsPrinted, IsTold, IsTurn, StayInGroup}
 use Rattle.script_runner.specs.Inside.Turns.{printed_text, texts_of}
 
@@ -80,7 +81,7 @@ appends-kept (Some x) (Some y) (Some z) xs h k = k ∙ h
 
 module _ (means : Meanings) where
   -- one line more
-  told_more : (sights : List Known) (c mid end : Player) (ls : Lines) (text : Bytes) (l : ℕ × Command) (told : Bytes)
+  told_more : (sights : List (Option Known)) (c mid end : Player) (ls : Lines) (text : Bytes) (l : ℕ × Command) (told : Bytes)
       → AreTold means sights c ls text mid
       → MayPrint means sights mid l.1 told end → end.name ≡ mid.name
       → AreTold means sights c (ls ++ l ∷ []) (text ++ line_text l.0 mid.name told) end
@@ -106,7 +107,7 @@ module _ (means : Meanings) where
   )
 
   -- a turn of the loop over the lines
-  pub line-more : (sights : List Known) (c mid end : Player) (all : List Line) (i : ℕ) (l : Line) (old new : Bytes)
+  pub line-more : (sights : List (Option Known)) (c mid end : Player) (all : List Line) (i : ℕ) (l : Line) (old new : Bytes)
       → i < length all → l ≡ get_or all i l
       → AreTold means sights c (map line_said (take i all)) old mid → IsTold means sights mid (line_said l) old new end
       → AreTold means sights c (map line_said (take (i + 1) all)) new end
@@ -163,35 +164,23 @@ told_of : {E : Type 0} (P : Bytes → Type 0) (r : Result (Vec ℕ) E) → IsOk 
 told_of P (Ok text) is told = told
 told_of P (Err e) is told = absurd (false≢true is)
 
--- all have seen the one group of which each client is
-one_group : {M : Type 0} (book : Book) (turns : List (Turn M)) (sights : List Known)
-    → sights ≡ all_sights (players_of turns) → AreOf book turns
-    → (t : Turn M) → (standing_of t.client.caller).seat.mark.book ≡ book → CanLearnAll (standing_of t.client.caller) sights
-one_group book turns sights is of_one t of_book k d below =
-    let views : sights ≡ map (λ u. sight_of (standing_of u.client.caller)) turns = is ∙ fused
-    (λ p. sight_of p.standing) (λ u. player_of u.client) turns in
-    let below_too : k < length turns = omega (
-      below,
-      ap length views,
-      length-map turns (λ u. sight_of (standing_of u.client.caller)),
-      arith,
-    ) in
-    let sight_there = ap (λ ss. get_or ss k d) views ∙ get_or-map (λ u. sight_of (standing_of u.client.caller)) turns k
-    t d below_too in
-    ap (λ s. s.book) sight_there ∙ of_one k t below_too ∙ sym of_book
-
 -- what is lent to a client in a phase is of its group
-pub lent : {M : Type 0} (turns : List (Turn M)) (sights : List Known) (i : ℕ) (t : Turn M) (k : ℕ) (d : Known)
-    → sights ≡ all_sights (players_of turns) → AreOfOneGroup turns
-    → i < length turns → t ≡ slice_index_or turns i t → k < length sights
-    → CanLearn (standing_of t.client.caller) (slice_index_or sights k d)
-lent turns sights i t k d is one below at in_sights =
-    one_group one.0 turns sights is one.1 t
-    (subst (λ u. (standing_of u.client.caller).seat.mark.book ≡ one.0) (sym at) (one.1 i t below)) k d in_sights
+pub lent : {M : Type 0} (turns : List (Turn M)) (sights : List (Option Known)) (i : ℕ) (t : Turn M)
+    → ((group : Grouped) → AreOf group turns → CanLearnAll group sights) → AreOfOneGroup turns
+    → i < length turns → t ≡ slice_index_or turns i t → CanLearnAll t.client.place.group sights
+lent turns sights i t there one below at =
+    subst (λ g. CanLearnAll g sights) (sym (ap (λ u. u.client.place.group) at ∙ one.1 i t below)) (there one.0 one.1)
+
+-- what a client has seen is of its group
+pub seen_one : (sight : Option Known) (group home : Grouped) → IfSome sight (λ s. s.book ≡ home.group.book)
+    → home ≡ group → IsSeenAt group sight
+seen_one sight group home is same seen there =
+    subst (λ o. IfSome o (λ s. s.book ≡ group.group.book)) there
+    (subst (λ (g : Grouped). IfSome sight (λ s. s.book ≡ g.group.book)) same is)
 
 module _ {M : Type 0} (means : Meanings) where
   -- a client's part of a phase, as it stands in the lists
-  pub part : (sights : List Known) (old new : List (Turn M)) (p : Phase) (i : ℕ) (d : Turn M)
+  pub part : (sights : List (Option Known)) (old new : List (Turn M)) (p : Phase) (i : ℕ) (d : Turn M)
       → i < length old → i < length new → i < p.clients
       → IsTurn means sights (lines_at p.parts.items i) (slice_index_or old i d).client
       (slice_index_or new i d) → IsPrinted (slice_index_or new i d)
@@ -226,7 +215,7 @@ module _ {M : Type 0} (means : Meanings) where
       (sym after) told)))
 
   -- a phase, by each client's part of it
-  pub phase : (sights : List Known) (old new : List (Turn M)) (p : Phase)
+  pub phase : (sights : List (Option Known)) (old new : List (Turn M)) (p : Phase)
       → sights ≡ all_sights (players_of old) → length new ≡ length old → length old ≡ p.clients
       → ((i : ℕ) (d : Turn M) → i < length old
       → IsTurn means sights (lines_at p.parts.items i) (slice_index_or old i d).client
@@ -252,7 +241,7 @@ module _ {M : Type 0} (means : Meanings) where
       }
 
   -- and they are of one group still
-  pub still_one : (sights : List Known) (old new : List (Turn M)) (p : Phase) → length new ≡ length old
+  pub still_one : (sights : List (Option Known)) (old new : List (Turn M)) (p : Phase) → length new ≡ length old
       → ((i : ℕ) (d : Turn M) → i < length old
       → IsTurn means sights (lines_at p.parts.items i) (slice_index_or old i d).client
       (slice_index_or new i d))

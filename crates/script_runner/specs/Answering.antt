@@ -1,5 +1,5 @@
 -- The clients of a script whose lines are done one by one.
-use Rattle.std.specs.Prelude.{◌≡◌, ℕ, List, Some, slice_get, slice_set}
+use Rattle.std.specs.Prelude.{◌≡◌, ℕ, List, Option, Some, slice_get, slice_set}
 use Rattle.group_history.specs.Map.{Bytes}
 use Rattle.group_history.specs.Meaning.{Meanings}
 use Rattle.head_word.specs.Marks.{Known}
@@ -14,12 +14,12 @@ abbrev pub players_in : {M : Type 0} → Clients M → List Player
 players_in clients = players_of clients.turns.items
 
 -- what each had seen when the phase began
-abbrev pub sights_in : {M : Type 0} → Clients M → List Known
+abbrev pub sights_in : {M : Type 0} → Clients M → List (Option Known)
 sights_in clients = clients.sights.items
 
 -- In a group whose mutators mean this: the client at a place does the command of a line, and the text is its line of
 -- output. The other clients stay as they are.
-pub record IsToldAt (means : Meanings) (sights : List Known) (place : ℕ) (l : ℕ × Command) (before : List Player)
+pub record IsToldAt (means : Meanings) (sights : List (Option Known)) (place : ℕ) (l : ℕ × Command) (before : List Player)
     (text : Bytes) (after : List Player) : Type 0 where
   pub client : Player
   pub at : slice_get before place ≡ Some client

@@ -5,20 +5,20 @@ use Rattle.std.specs.List.{concat}
 use Rattle.group_history.specs.Map.{Bytes}
 use Rattle.group_history.specs.Meaning.{Meanings}
 use Rattle.head_word.specs.Marks.{Known}
-use Rattle.script_runner.specs.Callers.{sight_of}
 use Rattle.script_runner.specs.Commanding.{MayPrint, Player}
 use Rattle.script_parser.specs.Context.{Lines}
 use Rattle.script_runner.specs.Printing.{line_text}
+use Rattle.script_runner.specs.Sights.{sight_at}
 
 -- what each client has seen
-abbrev pub all_sights : List Player → List Known
-all_sights players = map (λ p. sight_of p.standing) players
+abbrev pub all_sights : List Player → List (Option Known)
+all_sights players = map (λ p. sight_at p.place) players
 
 module _ (means : Meanings) where
   -- The text has a line of output for each line, in order, with what its command may print on the client that the lines
   -- before left; the last one leaves the client at the end. `sights` are what each client had seen when the phase
   -- began.
-  abbrev pub AreTold : List Known → Player → Lines → Bytes → Player → Type 0
+  abbrev pub AreTold : List (Option Known) → Player → Lines → Bytes → Player → Type 0
   AreTold sights before [] text end = (text ≡ []) × (end ≡ before)
   AreTold sights before (l ∷ ls) text end =
       (told : Bytes) × (next : Player) × (rest : Bytes) × MayPrint means sights before l.1 told next

@@ -1,22 +1,55 @@
--- The printed texts of replies.
-use Rattle.std.specs.Prelude.{ℕ, Bool, true, false, List, [], ◌∷◌, ◌++◌, map, codes, decimal, Some, None, Result, Ok}
-use Rattle.std.specs.Prelude.{Err}
-use Rattle.std.specs.List.{concat, join_with_byte}
+-- What is printed of what a command came to and told.
+use Rattle.std.specs.Prelude.{ℕ, Bool, true, false, [], ◌∷◌, ◌++◌, codes, decimal}
+use Rattle.std.specs.List.{concat}
 use Rattle.group_history.specs.declared.refusals.Refusal.{Refusal}
 use Rattle.group_history.specs.declared.refusals.Refusal.TheVariants as refusal
-use Rattle.group_history.specs.declared.responses.Ended.{Ended}
-use Rattle.group_history.specs.declared.responses.Ended.TheVariants.{Applied, Same}
 use Rattle.group_history.specs.Map.{Bytes}
 use Rattle.group_history.specs.Pull.{kind_text}
 use Rattle.group_history.specs.Refusals.{refusal_name}
-pub use Rattle.push_body.specs.Rows.{array_text, pending_row, row_text}
-use Rattle.rebase.specs.declared.watching.Polled.{Polled}
-use Rattle.rebase.specs.declared.watching.Polled.TheVariants as polled
-use Rattle.rebase.specs.Replies.{Replied, value, yes_or_no, rows, pending, cookie, id, body, ticket, ended}
+use Rattle.script_parser.specs.declared.script.Command.{Command}
+use Rattle.script_parser.specs.declared.script.Command.TheVariants as command
+use Rattle.script_parser.specs.declared.script.Query.{Query}
+use Rattle.script_parser.specs.declared.script.Query.TheVariants as query
+use Rattle.client_desk.specs.declared.faults.Fault.TheVariants.{NoWatch}
+use Rattle.client_desk.specs.declared.outcomes.Outcome.{Outcome}
+use Rattle.client_desk.specs.declared.outcomes.Outcome.TheVariants.{Done, Number, Nothing, Is, Asked, Refused, Faulty}
+use Rattle.client_desk.specs.Told.{Told}
 
--- rows, with commas (44) between them
-abbrev pub rows_text : List (Bytes × Bytes) → Bytes
-rows_text rs = join_with_byte 44 (map row_text rs)
+-- the word of a query that was done; behind it stands what is told
+abbrev pub query_word : Query → Bytes
+query_word (query.Get key) = codes "value "
+query_word (query.Scan scan) = codes "rows "
+query_word query.Pending = codes "pending "
+query_word query.Cookie = codes "cookie "
+query_word query.Push = codes "push "
+query_word other = []
+
+-- and of a command
+abbrev pub done_word : Command → Bytes
+done_word (command.Query q) = query_word q
+done_word (command.Begin n) = codes "pull "
+done_word (command.End n body) = codes "applied"
+done_word (command.Mutate m) = codes "id "
+done_word command.Refresh = codes "last "
+done_word (command.Learn place) = codes "learnt"
+done_word (command.Watch n scan) = codes "watching"
+done_word (command.Poll n) = codes "new "
+
+-- of one for which there is nothing
+abbrev pub nothing_word : Command → Bytes
+nothing_word (command.End n body) = codes "same"
+nothing_word (command.Poll n) = codes "unchanged"
+nothing_word other = codes "none"
+
+-- the number that is told, where it is an id; those of tickets and watches are not printed, as scripts have names
+abbrev pub number_text : Command → ℕ → Bytes
+number_text (command.Mutate m) n = decimal n
+number_text command.Refresh n = decimal n
+number_text other n = []
+
+abbrev pub bool_text : Bool → Bytes
+bool_text true = codes "yes"
+bool_text false = codes "no"
 
 -- what follows a refusal's name
 abbrev pub refusal_detail : Refusal → Bytes
@@ -24,47 +57,26 @@ refusal_detail (refusal.Refused code) = codes " " ++ decimal code
 refusal_detail (refusal.VersionNotSupported kind) = codes " " ++ kind_text kind
 refusal_detail e = []
 
-abbrev pub bool_text : Bool → Bytes
-bool_text true = codes "yes"
-bool_text false = codes "no"
-
-abbrev pub ended_text : Ended → Bytes
-ended_text Applied = codes "applied"
-ended_text Same = codes "same"
-
 -- a refusal
 abbrev pub refused_text : Refusal → Bytes
 refused_text e = codes "refused " ++ refusal_name e ++ refusal_detail e
 
--- what a call of the group replied, where a line hands it on
-abbrev pub replied_text : Replied → Bytes
-replied_text (value (Some json)) = codes "value " ++ json
-replied_text (value None) = codes "none"
-replied_text (yes_or_no is) = bool_text is
-replied_text (rows rs) = codes "rows " ++ array_text (map row_text rs)
-replied_text (pending ms) = codes "pending " ++ array_text (map pending_row ms)
-replied_text (cookie c) = codes "cookie " ++ c.text
-replied_text (id n) = codes "id " ++ decimal n
-replied_text (body bytes) = codes "push " ++ bytes
-replied_text (ticket asked) = codes "pull " ++ asked.body
-replied_text (ended e) = ended_text e
+-- what a command came to: a client of a script sits at its place, so what it lacks is a watch or a ticket, and its group
+-- asks for no run
+abbrev pub outcome_text : Command → Outcome → Bytes
+outcome_text c Done = done_word c
+outcome_text c (Number n) = done_word c ++ number_text c n
+outcome_text c Nothing = nothing_word c
+outcome_text c (Is is) = bool_text is
+outcome_text c Asked = []
+outcome_text c (Refused e) = refused_text e
+outcome_text c (Faulty NoWatch) = codes "no watch"
+outcome_text c (Faulty other) = codes "no ticket"
 
-abbrev pub answer_text : Result Replied Refusal → Bytes
-answer_text (Ok reply) = replied_text reply
-answer_text (Err e) = refused_text e
+-- and what it told
+abbrev pub told_text : Command → Told → Bytes
+told_text c t = outcome_text c t.outcome ++ t.bytes
 
--- the same of a `refresh`: the id that is answered is the client's last one
-abbrev pub refreshed_text : Result Replied Refusal → Bytes
-refreshed_text (Ok (id n)) = codes "last " ++ decimal n
-refreshed_text (Ok other) = replied_text other
-refreshed_text (Err e) = refused_text e
-
--- what a poll answers
-abbrev pub polled_text : Result Polled Refusal → Bytes
-polled_text (Ok (polled.New rs)) = codes "new " ++ array_text (map row_text rs)
-polled_text (Ok polled.Unchanged) = codes "unchanged"
-polled_text (Err e) = refused_text e
-
--- a line of output, with the number of the script's line, the client's name and the reply
+-- a line of output, with the number of the script's line, the client's name and what is printed of the command
 unfoldable pub line_text : ℕ → Bytes → Bytes → Bytes
 line_text number name said = concat (decimal number ∷ codes " " ∷ name ∷ codes " " ∷ said ∷ codes "\n" ∷ [])

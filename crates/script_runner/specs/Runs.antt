@@ -1,18 +1,19 @@
 -- With which clients a run of a script begins, and how it ends.
-use Rattle.std.specs.Prelude.{◌≡◌, ◌⊎◌, ⊤, codes, List, [], map, Option, None, unwrap_or, Result, Err}
-use Rattle.std.specs.Prelude.{IfErr, IfOk}
-use Rattle.std.specs.FinMap as finite
+use Rattle.std.specs.Prelude.{ℕ, zero, suc, ◌≡◌, ◌⊎◌, ◌<◌, ⊤, codes, List, [], length, map, Option, None, Some, unwrap_or}
+use Rattle.std.specs.Prelude.{Result, Err, IfErr, IfOk, slice_index_or}
 use Rattle.std.specs.Io.KnownBytes.{Appends, Keeps}
-use Rattle.std.specs.List.{All}
-use Rattle.logbook.specs.Pages.{Book}
 use Rattle.group_history.specs.Map.{Bytes}
 use Rattle.group_history.specs.Meaning.{Meanings}
-use Rattle.group_history.specs.State.{last_id}
-use Rattle.group_history.specs.declared.refs.Ref.{Ref}
-use Rattle.head_word.specs.Books.{opening}
-use Rattle.head_word.specs.Marks.{Known}
+use Rattle.head_word.specs.declared.entry.Entry.{Entry}
+use Rattle.head_word.specs.Books.{opening, opening_ref}
+use Rattle.head_word.specs.Marks.{Known, known}
 use Rattle.push_body.specs.declared.identities.Identity.{Identity}
-use Rattle.answered.specs.Answered.{IsAnswered, own_moves}
+use Rattle.commit_graph.specs.Seats.{Seated}
+use Rattle.rebase.specs.Clients.{ClientState, Grouped}
+use Rattle.client_desk.specs.declared.outcomes.Outcome.TheVariants.{Done}
+use Rattle.client_desk.specs.Answers.{SitsDown}
+use Rattle.client_desk.specs.Places.{PlaceState, free_place}
+use Rattle.client_desk.specs.Told.{told_alone}
 use Rattle.script_parser.specs.declared.faults.Fault.{Fault}
 use Rattle.script_parser.specs.declared.faults.Fault.TheVariants as fault
 use Rattle.script_parser.specs.declared.script.Header.{Header}
@@ -21,6 +22,7 @@ use Rattle.script_parser.specs.Context.{Context}
 use Rattle.script_parser.specs.Faults.{script_said}
 use Rattle.script_mutators.specs.Mutators.{script_means}
 use Rattle.script_runner.specs.Phases.{AreWritten, HasWhole}
+use Rattle.script_runner.specs.Records.{IsRecordOf}
 
 -- whose requests a group writes: what the header lines of `group`, `profile` and `schema` say, and else the defaults
 abbrev pub identity_of : Option Bytes → Option Bytes → Option Bytes → Identity
@@ -34,29 +36,44 @@ identity_of group profile schema = record {
 abbrev pub header_identity : Header → Identity
 header_identity header = identity_of header.group header.profile header.schema
 
--- it has seen the opening of its book, and nothing else
-abbrev pub HasSeenOpening : Known → Type 0
-HasSeenOpening mark = (at : Ref) × (mark.log ≡ opening at)
+-- a client's ID, where there is one
+abbrev pub id_of : Option ClientState → Bytes
+id_of (Some client) = client.id
+id_of None = []
 
--- A client of the group of this book before the first phase, whose mutators mean this. It began when its seat had seen
--- the opening of the book alone, has the last id that the group has of it, moved nothing, and has no ticket and no
--- watch.
-pub record IsNew (means : Meanings) (identity : Identity) (book : Book) (p : Player) : Type 0 where
-  pub writes : p.standing.caller.identity ≡ identity
-  pub of_book : p.standing.seat.mark.book ≡ book
-  pub last : (before : Known) × HasSeenOpening before × IsAnswered means before p.standing.seat.mark None
-      (λ s. last_id s p.standing.caller.client ≡ p.standing.caller.last)
-  pub moves : own_moves p.standing.seat.mark ≡ []
-  pub tickets : p.tickets ≡ finite.empty
-  pub watches : p.standing.watches ≡ finite.empty
+-- that of the client that sits at a place
+abbrev pub id_at : PlaceState → Bytes
+id_at place = id_of place.client
+
+-- how many seats a group has for so many clients: one where there are none
+abbrev pub seats_for : ℕ → ℕ
+seats_for zero = 1
+seats_for (suc n) = suc n
+
+-- the mark of the seat of this number, of a group that was just opened for so many: it has seen the opening alone
+abbrev pub mark_at : Grouped → ℕ → ℕ → ℕ → Known
+mark_at group count commit number = known group.group.book (opening count (opening_ref commit)) (Some number)
+
+-- A client before the first phase, by its number, of a group for so many, whose mutators mean this: it sat down at a
+-- new place, by its ID, on the seat of that number.
+pub record IsNew (means : Meanings) (group : Grouped) (count commit number : ℕ) (p : Player) : Type 0 where
+  pub uuid : Bytes
+  pub seat : Seated
+  pub mark : seat.mark ≡ mark_at group count commit number
+  pub sat : SitsDown uuid means seat (free_place group seat) (told_alone Done) p.place
 
 -- the clients before the first phase: those of the lines, each with its name and ID, in a group of its own
 pub record AreNew (means : Meanings) (identity : Identity) (lines : List (Bytes × Bytes))
     (players : List Player) : Type 0 where
-  pub named : map (λ p. (p.name, p.standing.caller.client)) players ≡ lines
-  pub all : (book : Book) × All (IsNew means identity book) players
+  pub named : map (λ p. (p.name, id_at p.place)) players ≡ lines
+  pub group : Grouped
+  pub writes : group.identity ≡ identity
+  pub commit : ℕ
+  pub all : (i : ℕ) (p : Player) → i < length players
+      → IsNew means group (seats_for (length players)) commit i (slice_index_or players i p)
 
--- A run to the end writes what the phases print that the script says, from its clients on.
+-- A run to the end writes what the phases print that the script says, from its clients on. At its end there is one
+-- record of all that they changed.
 pub record HasRun (said : Context) (old new : Option Bytes) : Type 0 where
   pub opened : List Player
   pub are : AreNew script_means (identity_of said.group said.profile said.schema) said.clients opened
@@ -64,6 +81,7 @@ pub record HasRun (said : Context) (old new : Option Bytes) : Type 0 where
   pub closed : List Player
   pub written : AreWritten script_means opened said.phases text closed
   pub appended : Appends old new text
+  pub one : 0 < length closed → (book : List Entry) × IsRecordOf script_means closed book
 
 -- A run that memory ended has written what so many whole phases print, none where its clients were not opened.
 pub record HasRunSome (said : Context) (old new : Option Bytes) (opened : List Player) : Type 0 where

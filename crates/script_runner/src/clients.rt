@@ -3,32 +3,32 @@
 //! `Clients` is a group of its own, its clients, and what each of them had seen when the phase began. All are of that
 //! group, which the type's invariant says: so each can learn what any other had seen.
 ghost use Rattle.std.specs.Prelude.{◌≡◌, IfOk};
+ghost use Rattle.std.specs.Arc.{arc_value};
 ghost use Rattle.std.specs.Coded.{Coded-set, codes, Π_prop, →_prop};
-ghost use Rattle.std.specs.List.{All};
 ghost use Rattle.script_runner.specs.Phases.{all_sights};
-ghost use Rattle.script_runner.specs.Inside.Players.{standing_of};
+ghost use Rattle.script_runner.specs.Sights.{CanLearnAll};
+ghost use Rattle.script_runner.specs.Inside.Turns.{AreOf};
 
 use crate::phase::{Turn, sights_of};
-use crate::reply::print_line;
-use crate::runner::{open_clients, open_group};
-use chunk_slots::Arena;
+use crate::runner::{ScriptGroup, open_clients, open_group};
+use crate::words::print_line;
+use client_desk::Whole;
 use group_history::Mutators;
 use head_word::Mark;
-use rebase::Group;
 use script_parser::{Header, Line};
 use std::alloc::{AllocError, Global};
-use std::sync::Wait;
+use std::sync::{Arc, Wait};
 
 /// The clients of a script, in a group of their own.
 pub struct Clients<M: Mutators + Drop> {
     alloc: Global,
-    group: Group<M, Arena<M>>,
+    group: Arc<ScriptGroup<M>, Global>,
     turns: Vec<Turn<M>>,
-    sights: Vec<Mark<M>>,
-    ghost of_group: { All (λ t. (standing_of t.client.caller).seat.mark.book ≡ group.group.book) turns.items } by { Π_prop
+    sights: Vec<Option<Mark<Whole<M>>>>,
+    ghost of_group: { AreOf (arc_value group) turns.items } by { Π_prop
         (λ k. Π_prop (λ d. →_prop (Prim.hlevel (codes, Coded-set)))) },
-    ghost seen_there: { All (λ s. s.book ≡ group.group.book) sights.items } by { Π_prop
-        (λ k. Π_prop (λ d. →_prop (Prim.hlevel (codes, Coded-set)))) },
+    ghost seen_there: { CanLearnAll (arc_value group) sights.items } by { Π_prop (λ k. Π_prop
+        (λ d. →_prop (Π_prop (λ seen. →_prop (Prim.hlevel (codes, Coded-set)))))) },
 }
 
 impl<M: Mutators + Drop> Drop for Clients<M> {
@@ -103,10 +103,9 @@ impl<M: Mutators + Drop> Clients<M> {
         ensures seen { sights_in self.new ≡ sights_in self.old }
         ensures count { length (players_in self.new) ≡ length (players_in self.old) }
     {
+        let mut bytes = Vec::new(self.alloc);
         let client = &mut self.turns[place].client;
-        let reply = client.call(rt, &self.sights, &line.command);
-        let told = print_line(text, line.number, client.name.as_str(), &reply);
-        drop(reply);
-        told
+        let outcome = client.call(rt, &self.sights, &line.command, &mut bytes);
+        print_line(text, line, client.name.as_str(), outcome, &bytes)
     }
 }

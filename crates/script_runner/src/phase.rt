@@ -2,13 +2,16 @@
 ghost use Rattle.std.specs.Prelude.{◌≡◌, ◌<◌, IfOk, OnOk, length, map};
 ghost use Rattle.std.specs.List.{All};
 ghost use Rattle.script_parser.specs.Scripts.{line_said, lines_at, phase_said};
-ghost use Rattle.script_runner.specs.Callers.{CanLearnAll, IsOfSameGroup};
+ghost use Rattle.rebase.specs.Clients.{Grouped};
 ghost use Rattle.script_runner.specs.Phases.{AreTold, IsPhase, all_sights};
-ghost use Rattle.script_runner.specs.Inside.Players.{player_of, players_of, standing_of};
-ghost use Rattle.script_runner.specs.Inside.Turns.{AreOfOneGroup, IsPrinted, IsTold, IsTurn, StayInGroup, texts_of};
+ghost use Rattle.script_runner.specs.Sights.{CanLearnAll};
+ghost use Rattle.script_runner.specs.Inside.Players.{player_of, players_of};
+ghost use Rattle.script_runner.specs.Inside.Turns.{AreOf, AreOfOneGroup, IsPrinted, IsTold, IsTurn, StayInGroup};
+ghost use Rattle.script_runner.specs.Inside.Turns.{texts_of};
 
 use crate::client::ScriptClient;
-use crate::reply::print_line;
+use crate::words::print_line;
+use client_desk::Whole;
 use group_history::Mutators;
 use head_word::Mark;
 use script_parser::{Line, Phase};
@@ -39,34 +42,33 @@ impl<M: Mutators + Drop> ScriptClient<M> {
     fn tell<R: Wait, G: Gate>(
         &mut self,
         host: &Host<'_, R, G>,
-        sights: &[Mark<M>],
+        sights: &[Option<Mark<Whole<M>>>],
         line: &Line,
         printed: &mut Vec<u8>,
     ) -> Result<(), AllocError>
-        requires { CanLearnAll (standing_of self.old.caller) sights.now }
+        requires learn { CanLearnAll self.old.place.group sights.now }
         ensures told { OnOk result (IsTold M.means sights.now (player_of self.old) (line_said line.now)
             printed.old.items printed.new.items (player_of self.new)) }
-        ensures group { IsOfSameGroup (standing_of self.old.caller) (standing_of self.new.caller) }
+        ensures group { self.new.place.group ≡ self.old.place.group }
     {
         host.gate.before(self.name.as_str(), line.number);
-        let reply = self.call(host.rt, sights, &line.command);
+        let mut bytes = Vec::new(host.alloc);
+        let outcome = self.call(host.rt, sights, &line.command, &mut bytes);
         host.gate.after(self.name.as_str(), line.number);
-        let told = print_line(printed, line.number, self.name.as_str(), &reply);
-        drop(reply);
-        told
+        print_line(printed, line, self.name.as_str(), outcome, &bytes)
     }
 
     /// Does the commands of the lines, in order, and answers what is printed of them.
     fn tell_all<R: Wait, G: Gate>(
         &mut self,
         host: &Host<'_, R, G>,
-        sights: &[Mark<M>],
+        sights: &[Option<Mark<Whole<M>>>],
         lines: &[Line],
     ) -> Result<Vec<u8>, AllocError>
-        requires { CanLearnAll (standing_of self.old.caller) sights.now }
+        requires { CanLearnAll self.old.place.group sights.now }
         ensures told { IfOk result (λ text. AreTold M.means sights.now (player_of self.old)
             (map line_said lines.now) text.items (player_of self.new)) }
-        ensures group { IsOfSameGroup (standing_of self.old.caller) (standing_of self.new.caller) }
+        ensures group { self.new.place.group ≡ self.old.place.group }
     {
         let mut printed = Vec::new(host.alloc);
         for line in lines {
@@ -84,24 +86,30 @@ pub(crate) struct Turn<M: Mutators + Drop> {
 }
 
 impl<M: Mutators + Drop> Turn<M> {
-    fn play<R: Wait, G: Gate>(&mut self, host: &Host<'_, R, G>, sights: &[Mark<M>], lines: &[Line])
-        requires { CanLearnAll (standing_of self.old.client.caller) sights.now }
+    fn play<R: Wait, G: Gate>(
+        &mut self,
+        host: &Host<'_, R, G>,
+        sights: &[Option<Mark<Whole<M>>>],
+        lines: &[Line],
+    )
+        requires { CanLearnAll self.old.client.place.group sights.now }
         ensures { IsTurn M.means sights.now (map line_said lines.now) self.old.client self.new }
     {
         self.printed = self.client.tell_all(host, sights, lines);
     }
 }
 
-/// What each client has seen.
+/// What each client has seen, which all others of its group can learn.
 pub(crate) fn sights_of<M: Mutators + Drop>(
     alloc: Global,
     turns: &[Turn<M>],
-) -> Result<Vec<Mark<M>>, AllocError>
-    ensures { IfOk result (λ sights. sights.items ≡ all_sights (players_of turns.now)) }
+) -> Result<Vec<Option<Mark<Whole<M>>>>, AllocError>
+    ensures seen { IfOk result (λ sights. sights.items ≡ all_sights (players_of turns.now)) }
+    ensures there { IfOk result (λ sights. (group : Grouped) → AreOf group turns.now → CanLearnAll group sights.items) }
 {
     let mut sights = Vec::with_capacity(alloc, turns.len())?;
     for turn in turns {
-        sights.push(turn.client.caller.seen())?;
+        sights.push(turn.client.place.sight())?;
     }
     Ok(sights)
 }
@@ -136,7 +144,7 @@ pub(crate) fn run_phase<R: Threads + Wait + Sync, G: Gate, M: Mutators + Send + 
         turns,
         count,
         &|i, turn| -> ()
-            requires one { CanLearnAll (standing_of turn.now.client.caller) sights.items }
+            requires one { CanLearnAll turn.now.client.place.group sights.items }
             ensures { IsTurn M.means sights.items (lines_at phase.entry.now.parts.items i)
                 turn.entry.now.client turn.exit.now }
         { turn.play(host, &sights, phase.lines_of(i)) },

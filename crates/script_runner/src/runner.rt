@@ -1,37 +1,40 @@
 //! Runs a script: its phases one after the other, on clients of one group.
-ghost use Rattle.std.specs.Prelude.{◌≡◌, ◌≤◌, ◌+◌, IfOk, Ok, OnOk, length, map, vec_len};
+ghost use Rattle.std.specs.Prelude.{ℕ, ◌≡◌, ◌≤◌, ◌+◌, ◌-◌, IfOk, Ok, OnOk, length, map, vec_len};
+ghost use Rattle.std.specs.Arc.{arc_value};
 ghost use Rattle.std.specs.Io.KnownBytes.{Appends, Keeps};
 ghost use Rattle.std.specs.List.{All, concat};
+ghost use Rattle.commit_graph.specs.Seats.{Seated};
 ghost use Rattle.rebase.specs.Clients.{AreSeatsOf};
+ghost use Rattle.client_desk.specs.Places.{free_place};
+ghost use Rattle.uuid.specs.Text.{hyphenated_text, lower};
 ghost use Rattle.script_parser.specs.Faults.{Checks, first_fault, script_said};
 ghost use Rattle.script_parser.specs.Context.{Context};
 ghost use Rattle.script_parser.specs.Kept.{IsInRange};
 ghost use Rattle.script_parser.specs.Scripts.{IsChecked, IsScript, client_said, phase_said};
-ghost use Rattle.script_runner.specs.Commanding.{new_player};
 ghost use Rattle.script_runner.specs.Phases.{HasWhole, HasWritten, IsPhase};
 ghost use Rattle.script_runner.specs.Runs.{AreNew, BlamesNoScript, HasRunScript, HasStoppedScript, IsWant};
-ghost use Rattle.script_runner.specs.Runs.{KeepsIfFaulty, header_identity};
-ghost use Rattle.script_runner.specs.Inside.Players.{IsFresh, IsNewIn, line_of, player_of, players_of};
-ghost use Rattle.script_runner.specs.Inside.Players.{standing_of};
+ghost use Rattle.script_runner.specs.Runs.{KeepsIfFaulty, header_identity, mark_at, seats_for};
+ghost use Rattle.script_runner.specs.Inside.Players.{AreLeftOf, AreNewIn, IsNewIn, line_of, players_of};
 ghost use Rattle.script_runner.specs.Inside.Runs.{IsRun};
 ghost use Rattle.script_runner.specs.Inside.Turns.{AreOfOneGroup, IsPrinted, StayInGroup, texts_of};
 
 use crate::client::ScriptClient;
 use crate::phase::{Gate, Host, Turn, run_phase};
-use crate::shared::{SharedClient, TRIES};
-use chunk_slots::Arena;
-use group_history::{Mutators, Text};
-use rebase::{Config, Group, Seats};
+use crate::record::gather;
+use client_desk::{Call, Outcome, Place, Whole};
+use group_history::Mutators;
+use rebase::{Arena, Config, Group, Seats, Uuid};
 use script_mutators::ScriptMutators;
 use script_parser::{ClientLine, Fault, Header, Phase, Script, read_script};
 use std::alloc::{AllocError, Global};
 use std::io;
-use std::sync::Wait;
+use std::sync::{Arc, Wait};
 use std::thread::Threads;
 
-pub(crate) type ScriptGroup<M> = Group<M, Arena<M>>;
+/// A group that runs all mutators of its scripts itself.
+pub(crate) type ScriptGroup<M> = Group<Whole<M>, Arena<Whole<M>>>;
 
-pub(crate) type ScriptSeats<M> = Seats<M, Arena<M>>;
+pub(crate) type ScriptSeats<M> = Seats<Whole<M>, Arena<Whole<M>>>;
 
 /// What a phase prints, client by client.
 fn text_of<M: Mutators + Drop>(alloc: Global, turns: &[Turn<M>]) -> Result<Vec<u8>, AllocError>
@@ -86,6 +89,7 @@ fn run_phases<R: Threads + Wait + Sync, G: Gate, M: Mutators + Send + Drop, W: i
         (W.contents out.old) (W.contents out.new) (players_of turns.new)) }
     ensures want { IsWant result → HasWhole M.means (players_of turns.old) (map phase_said phases.now)
         (W.contents out.old) (W.contents out.new) }
+    ensures group { StayInGroup turns.old turns.new }
     ensures fault { BlamesNoScript result }
 {
     for phase in phases {
@@ -94,14 +98,24 @@ fn run_phases<R: Threads + Wait + Sync, G: Gate, M: Mutators + Send + Drop, W: i
     Ok(())
 }
 
+// How many seats a group has for so many clients.
+fn seats_for(clients: usize) -> usize
+    ensures { result ≡ seats_for clients }
+{
+    match clients {
+        0 => 1,
+        some => some,
+    }
+}
+
 /// How a script lays its group out: a seat for each client, and one where there are none.
 fn config_of(alloc: Global, header: &Header) -> Result<Config, AllocError>
     requires { IsInRange header.now }
     ensures identity { IfOk result (λ config. config.identity ≡ header_identity header.now) }
-    ensures seats { IfOk result (λ config. vec_len header.now.clients ≤ config.seats) }
+    ensures seats { IfOk result (λ config. config.seats ≡ seats_for (vec_len header.now.clients)) }
 {
     let identity = header.identity(alloc)?;
-    let seats = header.clients.len().max(1) as u32;
+    let seats = seats_for(header.clients.len()) as u32;
     let slots = header.slots_or_default() as u32;
     let Ok(config) = Config::new(identity, slots, seats) else {
         unreachable!()
@@ -114,33 +128,49 @@ pub(crate) fn open_group<M: Mutators + Drop>(
     alloc: Global,
     header: &Header,
     mutators: M,
-) -> Result<(ScriptGroup<M>, ScriptSeats<M>), Fault>
+) -> Result<(Arc<ScriptGroup<M>, Global>, ScriptSeats<M>), Fault>
     requires { IsInRange header.now }
-    ensures identity { IfOk result (λ made. made.0.identity ≡ header_identity header.now) }
-    ensures free { IfOk result (λ made. vec_len header.now.clients ≤ length made.1.free) }
-    ensures seats { IfOk result (λ made. AreSeatsOf made.0.group made.1.free) }
-    ensures opening { IfOk result (λ made. All IsFresh made.1.free) }
+    ensures identity { IfOk result (λ made. (arc_value made.0).identity ≡ header_identity header.now) }
+    ensures free { IfOk result (λ made. length made.1.free ≡ seats_for (vec_len header.now.clients)) }
+    ensures seats { IfOk result (λ made. AreSeatsOf (arc_value made.0).group made.1.free) }
+    ensures opening { IfOk result (λ made. (commit : ℕ)
+        × AreLeftOf (arc_value made.0) (seats_for (vec_len header.now.clients)) commit made.1.free) }
     ensures fault { BlamesNoScript result }
 {
     let config = config_of(alloc, header)?;
-    let Ok(made) = Group::<M, Arena<M>>::open(alloc, config, mutators, ()) else {
+    let Ok((group, seats)) = Group::<Whole<M>, Arena<Whole<M>>>::open(
+        alloc,
+        config,
+        Whole { mutators },
+        (),
+    ) else {
         return Err(Fault::NoMemory);
     };
-    Ok(made)
+    let group = Arc::new(alloc, group)?;
+    Ok((group, seats))
 }
 
-/// A client before the first phase.
-fn turn_of<M: Mutators + Drop>(
+/// A client sits down by an ID, at a new place.
+fn sit<M: Mutators + Drop>(
     alloc: Global,
-    name: &Text,
-    caller: SharedClient<M>,
+    id: &Uuid,
+    client: ScriptClient<M>,
 ) -> Result<Turn<M>, AllocError>
-    ensures { IfOk result (λ turn. player_of turn.client ≡ new_player name.now (standing_of caller)) }
+    requires { (seat : Seated) × (client.place ≡ free_place client.place.group seat) }
+    ensures name { IfOk result (λ turn. line_of turn ≡ (client.name, hyphenated_text lower id.now)) }
+    ensures new { (seat : Seated) (count commit number : ℕ) → client.place ≡ free_place client.place.group seat
+        → seat.mark ≡ mark_at client.place.group count commit number
+        → IfOk result (IsNewIn M.means client.place.group count commit number) }
 {
-    let client = ScriptClient::new(alloc, name, caller)?;
+    let mut client = client;
+    let mut bytes = Vec::new(alloc);
+    // In a new group, in one thread, want of memory alone refuses a client.
+    let Outcome::Done = client.place.call(Call::Sit(id), &mut bytes) else {
+        return Err(AllocError);
+    };
     Ok(Turn {
         client,
-        printed: Ok(Vec::new(alloc)),
+        printed: Ok(bytes),
     })
 }
 
@@ -148,40 +178,39 @@ fn turn_of<M: Mutators + Drop>(
 fn open_client<M: Mutators + Drop>(
     alloc: Global,
     line: &ClientLine,
-    group: &ScriptGroup<M>,
+    group: &Arc<ScriptGroup<M>, Global>,
     seats: &mut ScriptSeats<M>,
 ) -> Result<Turn<M>, AllocError>
     requires free { 1 ≤ length seats.old.free }
-    requires seats { AreSeatsOf group.now.group seats.old.free }
-    requires opening { All IsFresh seats.old.free }
+    requires seats { AreSeatsOf (arc_value group.now).group seats.old.free }
     ensures left { IfOk result (λ _. length seats.old.free ≡ length seats.new.free + 1) }
-    ensures seats { IfOk result (λ _. AreSeatsOf group.now.group seats.new.free) }
-    ensures opening { IfOk result (λ _. All IsFresh seats.new.free) }
+    ensures seats { IfOk result (λ _. AreSeatsOf (arc_value group.now).group seats.new.free) }
     ensures name { IfOk result (λ turn. line_of turn ≡ client_said line.now) }
-    ensures new { IfOk result (IsNewIn M.means group.now) }
+    ensures new { (count commit : ℕ) → AreLeftOf (arc_value group.now) count commit seats.old.free → IfOk result
+        (λ turn. IsNewIn M.means (arc_value group.now) count commit (count - length seats.old.free) turn
+        × AreLeftOf (arc_value group.now) count commit seats.new.free) }
 {
+    let name = line.name.clone()?;
+    let group = Arc::try_clone(group)?;
     let Ok(seat) = seats.take() else {
         unreachable!()
     };
-    // In a new group, in one thread, want of memory alone refuses a client.
-    let Ok(client) = group.client(seat, line.id, TRIES) else {
-        return Err(AllocError);
-    };
-    turn_of(alloc, &line.name, SharedClient::new(alloc, client))
+    let place = Place::new(alloc, group, seat);
+    sit(alloc, &line.id, ScriptClient { name, place })
 }
 
 /// Opens the clients of a script on the seats of a group, in the order of their lines.
 pub(crate) fn open_clients<M: Mutators + Drop>(
     alloc: Global,
     lines: &[ClientLine],
-    group: &ScriptGroup<M>,
+    group: &Arc<ScriptGroup<M>, Global>,
     seats: ScriptSeats<M>,
 ) -> Result<Vec<Turn<M>>, AllocError>
     requires free { length lines.now ≤ length seats.free }
-    requires seats { AreSeatsOf group.now.group seats.free }
-    requires opening { All IsFresh seats.free }
+    requires seats { AreSeatsOf (arc_value group.now).group seats.free }
     ensures lines { IfOk result (λ turns. map line_of turns.items ≡ map client_said lines.now) }
-    ensures new { IfOk result (λ turns. All (IsNewIn M.means group.now) turns.items) }
+    ensures new { (commit : ℕ) → AreLeftOf (arc_value group.now) (length seats.free) commit seats.free
+        → IfOk result (λ turns. AreNewIn M.means (arc_value group.now) (length seats.free) commit turns.items) }
 {
     let mut seats = seats;
     let mut turns = Vec::with_capacity(alloc, lines.len())?;
@@ -220,7 +249,10 @@ fn run_shared<R: AllocGlobal + Threads + Wait + Sync, G: Gate, W: io::Write>(
 {
     let alloc = rt.alloc();
     let mut turns = open_script(alloc, &script.header, ScriptMutators)?;
-    run_phases(&Host { rt, alloc, gate }, &mut turns, &script.phases, out)
+    let turns: &mut [Turn<ScriptMutators>] = &mut turns;
+    run_phases(&Host { rt, alloc, gate }, turns, &script.phases, out)?;
+    gather(turns);
+    Ok(())
 }
 
 /// Runs a script (`docs/SCRIPT.md`), each client of a phase on a thread of its own, and writes the replies of each

@@ -15,7 +15,7 @@ pub record Standing : Type 0 where
   -- the clients of the group, in the order of their lines; none before the first phase
   pub players : List Player
   -- what each client had seen when the phase began
-  pub sights : List Known
+  pub sights : List (Option Known)
 
 -- before the first line
 abbrev pub at_first : Standing

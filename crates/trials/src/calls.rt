@@ -1,10 +1,13 @@
 //! Calls, made of commands.
 use crate::rows::Way;
-use group_history::{Text, TextMap};
 use hex::FromHexError;
 use rebase::{Call, Mutate, Ticket};
 use script_parser::{Command, MutatorCall, Query};
 use std::alloc::{AllocError, Global};
+use std::collections::BTreeMap;
+
+/// The tickets that a client keeps, by their numbers.
+pub(crate) type Tickets = BTreeMap<usize, Ticket>;
 
 /// What a call is made with: the runtime, what may wait, and whether the call is marked.
 #[derive(Drop)]
@@ -37,14 +40,14 @@ fn mutate_of(call: &MutatorCall) -> Mutate<'_> {
 
 /// The call that a command is, where it is one. `body` is that of its response.
 pub(crate) fn call_of<'a>(
-    tickets: &'a TextMap<Ticket>,
+    tickets: &'a Tickets,
     command: &'a Command,
     body: &'a [u8],
 ) -> Option<Call<'a>> {
     match command {
         Command::Query(query) => Some(query_call(query)),
         Command::Mutate(call) => Some(Call::Mutate(mutate_of(call))),
-        Command::End(name, _) => Some(Call::EndPull(tickets.get(name)?, body)),
+        Command::End(number, _) => Some(Call::EndPull(tickets.get(number)?, body)),
         Command::Refresh => Some(Call::Refresh),
         Command::Begin(_) => Some(Call::BeginPull),
         _ => None,
@@ -75,9 +78,10 @@ pub(crate) fn body_of(
 
 /// Keeps the ticket of a pull that is begun.
 pub(crate) fn keep_ticket(
-    tickets: &mut TextMap<Ticket>,
-    name: &Text,
+    tickets: &mut Tickets,
+    number: usize,
     ticket: Ticket,
 ) -> Result<(), AllocError> {
-    tickets.insert(name.clone()?, ticket)
+    tickets.insert(number, ticket)?;
+    Ok(())
 }

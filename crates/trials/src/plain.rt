@@ -1,5 +1,5 @@
 //! A trial over the group of one thread: a list of calls over a map.
-use crate::calls::{Turn, body_of, call_of, keep_ticket};
+use crate::calls::{Tickets, Turn, body_of, call_of, keep_ticket};
 use crate::failed::Failed;
 use crate::looks::{all_rows, say_change, say_seen};
 use crate::marks::{begins, ends};
@@ -9,13 +9,14 @@ use crate::rows::{Deed, Way};
 use crate::sheet::{Asked, Entry, Trial, is_played};
 use crate::tally::{Tally, judge};
 use crate::trial::Host;
-use group_history::{Ended, Mutation, PlainGroup, Refusal, Scan, Text, TextMap};
+use group_history::{Ended, Mutation, PlainGroup, Refusal, Scan, Text};
 use pull_patch::read_response;
 use push_body::{Identity, pull_bytes, push_bytes};
 use rebase::{Call, Mutate, Polled, Reply, Rows, Ticket};
 use script_mutators::ScriptMutators;
 use script_parser::{ClientLine, Command, uuid_text};
 use std::alloc::{AllocError, Global};
+use std::collections::BTreeMap;
 
 /// A group, and whose requests it writes.
 #[derive(Drop)]
@@ -37,8 +38,8 @@ struct Watch {
 struct Player {
     id: Text,
     last: u64,
-    tickets: TextMap<Ticket>,
-    watches: TextMap<Watch>,
+    tickets: Tickets,
+    watches: BTreeMap<usize, Watch>,
     all: Scan,
 }
 
@@ -135,27 +136,28 @@ impl Watch {
 }
 
 impl Player {
-    fn watch(&mut self, name: &Text, scan: &Scan) -> Result<(), AllocError> {
+    fn watch(&mut self, number: usize, scan: &Scan) -> Result<(), AllocError> {
         let watch = Watch {
             scan: scan.clone()?,
             last: None,
         };
-        self.watches.insert(name.clone()?, watch)
+        self.watches.insert(number, watch)?;
+        Ok(())
     }
 
-    /// Polls the watch of a name, where there is one.
-    fn poll(&mut self, plain: &Plain, name: &Text) -> Result<Option<Polled>, Refusal> {
-        let Some(watch) = self.watches.get(name) else {
+    /// Polls the watch of a number, where there is one.
+    fn poll(&mut self, plain: &Plain, number: usize) -> Result<Option<Polled>, Refusal> {
+        let Some(watch) = self.watches.get(&number) else {
             return Ok(None);
         };
         let rows = plain.group.scan(&watch.scan)?;
         let (watch, polled) = watch.polled(Rows::new(plain.alloc, rows)?)?;
-        self.watches.insert(name.clone()?, watch)?;
+        self.watches.insert(number, watch)?;
         Ok(Some(polled))
     }
 
-    fn say_poll(&mut self, plain: &Plain, name: &Text, out: &mut Said) {
-        match self.poll(plain, name) {
+    fn say_poll(&mut self, plain: &Plain, number: usize, out: &mut Said) {
+        match self.poll(plain, number) {
             Ok(Some(polled)) => out.say_polled(&Ok(polled)),
             Ok(None) => out.say("no watch"),
             Err(refusal) => out.say_refusal(refusal),
@@ -180,8 +182,8 @@ impl Player {
     /// Keeps the ticket of a pull that is begun, and the id that is replied.
     fn keep(&mut self, command: &Command, answer: Answer, out: &mut Said) {
         match (command, answer) {
-            (Command::Begin(name), Ok(Reply::Ticket(ticket))) => {
-                if keep_ticket(&mut self.tickets, name, ticket).is_err() {
+            (Command::Begin(number), Ok(Reply::Ticket(ticket))) => {
+                if keep_ticket(&mut self.tickets, *number, ticket).is_err() {
                     out.cut();
                 }
             }
@@ -218,8 +220,8 @@ impl Player {
         self.take(command, answer, out)
     }
 
-    fn say_watch(&mut self, name: &Text, scan: &Scan, out: &mut Said) {
-        match self.watch(name, scan) {
+    fn say_watch(&mut self, number: usize, scan: &Scan, out: &mut Said) {
+        match self.watch(number, scan) {
             Ok(()) => out.say("watching"),
             Err(_) => out.cut(),
         }
@@ -236,8 +238,8 @@ impl Player {
     ) -> bool {
         match command {
             Command::Learn(_) => out.say("learnt"),
-            Command::Watch(name, scan) => self.say_watch(name, scan, out),
-            Command::Poll(name) => self.say_poll(plain, name, out),
+            Command::Watch(number, scan) => self.say_watch(*number, scan, out),
+            Command::Poll(number) => self.say_poll(plain, *number, out),
             command => return self.call(it, plain, command, way, out),
         }
         false
@@ -263,8 +265,8 @@ fn player_of(alloc: Global, line: &ClientLine) -> Result<Player, AllocError> {
     Ok(Player {
         id: uuid_text(alloc, line.id)?,
         last: 0,
-        tickets: TextMap::new(alloc),
-        watches: TextMap::new(alloc),
+        tickets: Tickets::new(alloc),
+        watches: BTreeMap::new(alloc),
         all: all_rows(alloc)?,
     })
 }

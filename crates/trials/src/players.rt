@@ -3,25 +3,25 @@ ghost use Rattle.std.specs.Prelude.{◌≡◌, ◌<◌, IfOk, length};
 ghost use Rattle.std.specs.Option.{ForSome};
 ghost use Rattle.commit_graph.specs.Seats.{IsSameSeat, IsSeatOf};
 
-use crate::calls::{Turn, body_of, call_of, keep_ticket};
+use crate::calls::{Tickets, Turn, body_of, call_of, keep_ticket};
 use crate::counts::Counted;
 use crate::looks::{all_rows, look, say_change};
 use crate::marks::{begins, ends};
 use crate::replies::{Answer, Said, id_word, is_change};
 use crate::rows::{Manner, ONCE, Way};
 use chunk_slots::Store;
-use group_history::{Json, Refusal, Scan, Text, TextMap};
-use rebase::{Call, Client, Group, Polled, Reply, Seat, Seats, TakesRows, Ticket, Watch};
+use group_history::{Json, Refusal, Scan, Text};
+use rebase::{Call, Client, Group, Polled, Reply, Seat, Seats, TakesRows, Watch};
 use script_mutators::ScriptMutators;
 use script_parser::{Command, Query};
 use std::alloc::{AllocError, Global};
 use std::sync::Wait;
 use uuid::Uuid;
 
-/// A watch under its name.
+/// A watch under its number.
 #[derive(Drop)]
-struct Named {
-    name: Text,
+struct Numbered {
+    number: usize,
     watch: Watch<ScriptMutators>,
 }
 
@@ -33,9 +33,9 @@ pub(crate) struct Player<'g, S: Store<ScriptMutators>> {
     id: Uuid,
     client: Client<ScriptMutators, S>,
     looker: Client<ScriptMutators, S>,
-    tickets: TextMap<Ticket>,
-    first: Option<Named>,
-    second: Option<Named>,
+    tickets: Tickets,
+    first: Option<Numbered>,
+    second: Option<Numbered>,
     all: Scan,
     ghost client_of: { IsSeatOf group.now.group client.seat },
     ghost looker_of: { IsSeatOf group.now.group looker.seat },
@@ -136,7 +136,7 @@ impl<'g, S: Store<ScriptMutators> + Drop> Player<'g, S> {
             id,
             client,
             looker,
-            tickets: TextMap::new(alloc),
+            tickets: Tickets::new(alloc),
             first: None,
             second: None,
             all,
@@ -165,8 +165,8 @@ impl<'g, S: Store<ScriptMutators> + Drop> Player<'g, S> {
 
     /// Keeps the ticket of a pull that it began.
     fn keep(&mut self, command: &Command, answer: Answer, out: &mut Said) {
-        if let (Command::Begin(name), Ok(Reply::Ticket(ticket))) = (command, answer)
-            && keep_ticket(&mut self.tickets, name, ticket).is_err()
+        if let (Command::Begin(number), Ok(Reply::Ticket(ticket))) = (command, answer)
+            && keep_ticket(&mut self.tickets, *number, ticket).is_err()
         {
             out.cut();
         }
@@ -210,21 +210,20 @@ impl<'g, S: Store<ScriptMutators> + Drop> Player<'g, S> {
     }
 
     /// A watch of a scan.
-    fn watched(&mut self, name: &Text, scan: &Scan) -> Result<Named, AllocError>
+    fn watched(&mut self, number: usize, scan: &Scan) -> Result<Numbered, AllocError>
         ensures watch { IfOk result (λ named. named.watch.book ≡ self.old.group.now.group.book) }
         ensures group { self.new.group.now ≡ self.old.group.now }
     {
-        let name = name.clone()?;
         let watch = self.client.watch(scan.clone()?);
-        Ok(Named { name, watch })
+        Ok(Numbered { number, watch })
     }
 
     /// Watches a scan. A third watch takes the second one's place.
-    fn watch(&mut self, name: &Text, scan: &Scan, out: &mut Said) {
-        let Ok(named) = self.watched(name, scan) else {
+    fn watch(&mut self, number: usize, scan: &Scan, out: &mut Said) {
+        let Ok(named) = self.watched(number, scan) else {
             return out.cut();
         };
-        if self.first.is_none() || is_named(&self.first, name) {
+        if self.first.is_none() || has_number(&self.first, number) {
             self.first = Some(named);
         } else {
             self.second = Some(named);
@@ -246,11 +245,11 @@ impl<'g, S: Store<ScriptMutators> + Drop> Player<'g, S> {
         Some(polled)
     }
 
-    /// Polls the watch of a name, where there is one.
-    fn poll<R>(&mut self, it: &Turn<'_, R>, name: &Text, tries: u32, out: &mut Said) {
-        let polled = if is_named(&self.first, name) {
+    /// Polls the watch of a number, where there is one.
+    fn poll<R>(&mut self, it: &Turn<'_, R>, number: usize, tries: u32, out: &mut Said) {
+        let polled = if has_number(&self.first, number) {
             self.poll_first(it, tries)
-        } else if is_named(&self.second, name) {
+        } else if has_number(&self.second, number) {
             self.poll_second(it, tries)
         } else {
             None
@@ -274,8 +273,8 @@ impl<'g, S: Store<ScriptMutators> + Drop> Player<'g, S> {
     fn does_other<R>(&mut self, it: &Turn<'_, R>, command: &Command, way: Way<'_>, out: &mut Said) {
         match command {
             Command::Learn(_) => self.learn(it, out),
-            Command::Watch(name, scan) => self.watch(name, scan, out),
-            Command::Poll(name) => self.poll(it, name, way.tries, out),
+            Command::Watch(number, scan) => self.watch(*number, scan, out),
+            Command::Poll(number) => self.poll(it, *number, way.tries, out),
             Command::Query(Query::Scan(scan)) => self.scan(it, scan, way.tries, out),
             _ => {}
         }
@@ -405,7 +404,7 @@ impl<'g, S: Store<ScriptMutators> + Drop> Player<'g, S> {
 /// The calls of a list. A command that is no call is left out.
 fn listed_calls<'x>(
     alloc: Global,
-    tickets: &'x TextMap<Ticket>,
+    tickets: &'x Tickets,
     commands: &'x [&'x Command],
     bodies: &'x [Vec<u8>],
 ) -> Result<Vec<Call<'x>>, AllocError> {
@@ -434,9 +433,9 @@ fn client_again<S: Store<ScriptMutators> + Drop>(
     }
 }
 
-fn is_named(named: &Option<Named>, name: &Text) -> bool {
-    match named {
-        Some(named) => named.name == *name,
+fn has_number(kept: &Option<Numbered>, number: usize) -> bool {
+    match kept {
+        Some(kept) => kept.number == number,
         None => false,
     }
 }
@@ -445,7 +444,7 @@ fn is_named(named: &Option<Named>, name: &Text) -> bool {
 fn polled_by<R, S: Store<ScriptMutators>>(
     it: &Turn<'_, R>,
     client: &mut Client<ScriptMutators, S>,
-    named: &mut Named,
+    named: &mut Numbered,
     tries: u32,
 ) -> Result<Polled, Refusal>
     requires { named.old.watch.book ≡ client.old.seat.mark.book }

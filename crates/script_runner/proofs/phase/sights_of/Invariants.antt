@@ -1,9 +1,12 @@
-use Rattle.std.proofs.Common.{◌≡◌, map, take}
+use Rattle.std.proofs.Common.{◌≡◌, Option, map, take}
 use Rattle.head_word.specs.Marks.{Known}
-use Rattle.script_runner.specs.Callers.{sight_of}
-use Rattle.script_runner.specs.Inside.Players.{standing_of}
+use Rattle.rebase.specs.Clients.{Grouped}
+use Rattle.script_runner.specs.Sights.{CanLearnAll, sight_at}
+use Rattle.script_runner.specs.Inside.Turns.{AreOf}
 use Rattle.script_runner.proofs.phase.sights_of.Given as goal
 
 abbrev pub invariant-loop-turn : goal.invariant-loop-turn
-invariant-loop-turn g l = map (λ (s : Known). s) l.sights.items
-    ≡ map (λ t. sight_of (standing_of t.client.caller)) (take l.turn-index l.turns)
+invariant-loop-turn g l = record {
+  seen : map (λ (s : Option Known). s) l.sights.items ≡ map (λ t. sight_at t.client.place) (take l.turn-index l.turns);
+  there : (group : Grouped) → AreOf group l.turns → CanLearnAll group l.sights.items;
+}

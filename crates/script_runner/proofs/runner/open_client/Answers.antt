@@ -1,53 +1,41 @@
-use Rattle.std.proofs.Common.{◌≡◌, ◌∙◌, Some, refl, sym, ap, subst}
+use Rattle.std.proofs.Common.{Some, IfOk, ap, length, refl, subst, sym, ◌∙◌, ◌≡◌, ◌-◌}
+use Rattle.std.specs.Arc.{arc_value}
 use Rattle.commit_graph.specs.Seats.{IsSeatOf}
+use Rattle.rebase.specs.Clients.{Grouped}
 use Rattle.rebase.proofs.Seating.{popped}
-use Rattle.rebase.specs.Calls.{caller_of}
-use Rattle.script_parser.specs.Scripts.{client_said}
-use Rattle.script_runner.specs.Commanding.{new_player}
-use Rattle.script_runner.specs.Runs.{IsNew}
-use Rattle.script_runner.specs.Inside.Players.{IsFresh, standing_of}
-use Rattle.script_runner.proofs.Openings.{if_ok, if_player, moved_nothing}
+use Rattle.client_desk.specs.Places.{PlaceState, free_place}
+use Rattle.script_runner.specs.Runs.{mark_at}
+use Rattle.script_runner.specs.Inside.Players.{AreLeftOf, IsNewIn}
+use Rattle.script_runner.proofs.Openings.{if_ok, if_ok_both, left_popped}
 use Rattle.script_runner.proofs.runner.open_client.Goals as goal
 
 pub returns-clause-seats : goal.returns-clause-seats
 returns-clause-seats g c =
-    if_ok c.turn_of.result (popped (IsSeatOf c.args.group.now.group) c.args.seats.now.free c.take.new.self.free
+    if_ok c.sit.result (popped (IsSeatOf (arc_value c.args.group.now).group) c.args.seats.now.free c.take.new.self.free
     (Some c.in-Ok.seat) c.in-Ok.seat c.in-Ok.ensures.taken refl c.requires.seats).0
 
-pub returns-clause-opening : goal.returns-clause-opening
-returns-clause-opening g c =
-    if_ok c.turn_of.result (popped IsFresh c.args.seats.now.free c.take.new.self.free (Some c.in-Ok.seat)
-    c.in-Ok.seat c.in-Ok.ensures.taken refl c.requires.opening).0
+pub sit-requires : goal.sit-requires
+sit-requires g c =
+    let new = c.new-place.ensures in (
+      c.type_bounds.sync-M,
+      (
+        c.in-Ok.seat,
+        new ∙ ap (λ h. free_place h c.in-Ok.seat) (sym (ap (λ (p : PlaceState). p.group) new)),
+      ),
+    )
 
 pub returns-clause-new : goal.returns-clause-new
-returns-clause-new g c =
-    let group = c.args.group.now in
-    let made = c.new.result in
-    let said = c.in-Ok-client.ensures in
-    let home = (popped (IsSeatOf group.group) c.args.seats.now.free c.take.new.self.free (Some c.in-Ok.seat)
-    c.in-Ok.seat c.in-Ok.ensures.taken refl c.requires.seats).1 in
-    let seen = (popped IsFresh c.args.seats.now.free c.take.new.self.free (Some c.in-Ok.seat) c.in-Ok.seat
-    c.in-Ok.ensures.taken refl c.requires.opening).1 in
-    if_player c.turn_of.result (IsNew g.M.Means.means group.identity group.group.book)
-    (new_player c.args.line.now.name (standing_of made)) c.turn_of.ensures
-    (subst (λ x. IsNew g.M.Means.means group.identity group.group.book (new_player c.args.line.now.name
-    (record {
-      caller = caller_of x;
-      seat = x.seat;
-      watches = made.watches;
-    }))) (sym c.new.ensures.client)
-    (record {
-      writes = ap (λ g. g.identity) said.group;
-      of_book = said.looked.0.seat.later.book ∙ home.0;
-      last = (c.in-Ok.seat.mark, seen, said.answer);
-      moves = moved_nothing c.in-Ok.seat.mark c.in-Ok-client.client.seat.mark seen.0 seen.1 said.looked.0.own;
-      tickets = refl;
-      watches = c.new.ensures.watches;
-    }))
-
-pub returns-clause-name : goal.returns-clause-name
-returns-clause-name g c =
-    let made = c.new.result in let line = c.args.line.now in
-    if_player c.turn_of.result (λ p. (p.name, p.standing.caller.client) ≡ client_said line)
-    (new_player line.name (standing_of made)) c.turn_of.ensures
-    (ap (λ i. (line.name, i)) (ap (λ x. x.id) c.new.ensures.client ∙ c.in-Ok-client.ensures.id))
+returns-clause-new g c = λ count commit left.
+    let means = g.M.Means.means in let new = c.new-place.ensures in let seat = c.in-Ok.seat in
+    let home : c.new-place.result.group ≡ arc_value c.args.group.now =
+    ap (λ (p : PlaceState). p.group) new ∙ c.in_ok-group.ensures in
+    let group = arc_value c.args.group.now in let n = count - length c.args.seats.now.free in
+    let rest = left_popped group count commit c.args.seats.now.free c.take.new.self.free seat c.in-Ok.ensures.taken
+    left in
+    if_ok_both (IsNewIn means group count commit n) (λ turn. AreLeftOf group count commit c.take.new.self.free)
+    c.sit.result
+    (subst (λ (h : Grouped). IfOk c.sit.result (IsNewIn means h count commit n)) home
+    (c.sit.ensures.new seat count commit n
+    (new ∙ ap (λ h. free_place h seat) (sym (ap (λ (p : PlaceState). p.group) new)))
+    (subst (λ (h : Grouped). seat.mark ≡ mark_at h count commit n) (sym home) rest.1)))
+    (if_ok c.sit.result rest.0)

@@ -44,3 +44,6 @@ returns-in_err-write_phase-clause-want g c want =
       appends-kept (g.W.Write.contents c.args.out.now) (g.W.Write.contents l.out)
           (g.W.Write.contents c.write_phase.new.out) so_far.0 so_far.2 (c.in_err-write_phase.ensures.want lacked),
     )
+
+pub returns-in_err-write_phase-clause-group : goal.returns-in_err-write_phase-clause-group
+returns-in_err-write_phase-clause-group g c = λ b all. c.write_phase.ensures.group b (c.loop-phase.invariant.one b all)

@@ -1,4 +1,5 @@
-use Rattle.std.proofs.Common.{◌∙◌, sym}
+use Rattle.std.proofs.Common.{◌∙◌, subst, sym}
+use Rattle.script_runner.specs.Sights.{CanLearnAll}
 use Rattle.script_runner.specs.Inside.Players.{player_of}
 use Rattle.script_runner.proofs.Turns.{line-more}
 use Rattle.script_runner.proofs.client.ScriptClient.tell_all.Goals as goal
@@ -13,5 +14,6 @@ loop-line-preserved g c =
       group = c.tell.ensures.group ∙ l.invariant.group;
     }
 
-pub tell-requires-after_bounds : goal.tell-requires-after_bounds
-tell-requires-after_bounds g c b m k d below = c.requires k d below ∙ sym c.loop-line.invariant.group
+pub tell-requires-clause-learn : goal.tell-requires-clause-learn
+tell-requires-clause-learn g c b m =
+    subst (λ at. CanLearnAll at c.args.sights.now) (sym c.loop-line.invariant.group) c.requires

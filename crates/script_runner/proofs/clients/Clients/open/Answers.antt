@@ -1,24 +1,28 @@
-use Rattle.std.proofs.Common.{ap, map, ◌∙◌}
+use Rattle.std.proofs.Common.{ap, map, ◌∙◌, length, subst, sym}
+use Rattle.std.specs.Arc.{arc_value}
 use Rattle.script_parser.specs.Scripts.{client_said}
-use Rattle.script_runner.specs.Phases.{all_sights}
-use Rattle.script_runner.specs.Runs.{header_identity}
-use Rattle.script_runner.specs.Inside.Players.{players_of}
-use Rattle.script_runner.proofs.Grouping.{of_group, seen_there}
-use Rattle.script_runner.proofs.Openings.{are_opened}
+use Rattle.script_runner.specs.Inside.Turns.{AreOf}
+use Rattle.script_runner.proofs.Grouping.{are_of}
+use Rattle.script_runner.proofs.Openings.{all_opened, enough_in, seated_on}
 use Rattle.script_runner.proofs.clients.Clients.open.Goals as goal
 
 pub invariant_of-result : goal.invariant_of-result
 invariant_of-result g c =
-    let group = c.in-Ok.group in let turns = c.in_ok-turns.turns.items in
-    let of = of_group g.M.Means.means group turns c.in_ok-turns.ensures.new in
+    let group = arc_value c.in-Ok.group in let free = c.in-Ok.seats.free in let turns = c.in_ok-turns.turns.items in
+    let new = seated_on g.M.Means.means group c.args.header.now free turns c.in-Ok.ensures.free c.in-Ok.ensures.opening
+    c.in_ok-turns.ensures.new in
+    let of = are_of g.M.Means.means group (length free) c.in-Ok.ensures.opening.0 turns new in
     record {
       of_group = of;
-      seen_there = seen_there group.group.book turns c.in_ok-sights.sights.items
-          (c.in_ok-sights.ensures ∙ ap (λ ts. all_sights (players_of ts)) c.deref-2.ensures.value) of;
+      seen_there = c.in_ok-sights.ensures.there group (subst (AreOf group) (sym c.deref-2.ensures.value) of);
     }
 
 pub returns-clause-new : goal.returns-clause-new
 returns-clause-new g c =
-    are_opened g.M.Means.means c.in-Ok.group (header_identity c.args.header.now)
-    (map client_said c.args.header.now.clients.items) c.in_ok-turns.turns.items c.in-Ok.ensures.identity
+    all_opened g.M.Means.means (arc_value c.in-Ok.group) c.args.header.now c.in-Ok.seats.free
+    c.in_ok-turns.turns.items c.in-Ok.ensures.identity c.in-Ok.ensures.free c.in-Ok.ensures.opening
     (c.in_ok-turns.ensures.lines ∙ ap (map client_said) c.deref.ensures.value) c.in_ok-turns.ensures.new
+
+pub open_clients-requires-clause-free : goal.open_clients-requires-clause-free
+open_clients-requires-clause-free g c κs within =
+    enough_in c.args.header.now c.in-Ok.seats.free c.deref.result.now c.deref.ensures.value c.in-Ok.ensures.free

@@ -1,0 +1,57 @@
+-- How the one record of a run is found, in the code.
+use Rattle.std.specs.Prelude.{ℕ, ◌≡◌, ◌<◌, ◌≤◌, List, [], length, slice_index_or, Option, Some, None}
+use mathlib.Core.List.{IsPrefix}
+use Rattle.head_word.specs.declared.entry.Entry.{Entry}
+use Rattle.head_word.specs.Books.{opening, opening_ref}
+use Rattle.head_word.specs.Marks.{own}
+use Rattle.commit_graph.specs.Seats.{IsSameSeat}
+use Rattle.rebase.specs.Clients.{ClientState}
+use Rattle.client_desk.specs.Places.{PlaceState}
+use Rattle.script_runner.specs.Commanding.{Player}
+use Rattle.script_runner.specs.declared.phase.Turn.{Turn}
+
+-- At a place of a group that was opened for so many a client sits, by its seat's number, and no run is asked for.
+pub record IsSeated (count commit number : ℕ) (p : PlaceState) : Type 0 where
+  pub client : ClientState
+  pub sits : p.client ≡ Some client
+  pub seat : client.seat.mark.seat ≡ Some number
+  pub opened : IsPrefix (opening count (opening_ref commit)) client.seat.mark.log
+  pub calm : p.asking ≡ None
+
+-- so do clients at all places
+abbrev pub AreSeated : ℕ → ℕ → List Player → Type 0
+AreSeated count commit players = (i : ℕ) (p : Player) → i < length players
+    → IsSeated count commit i (slice_index_or players i p).place
+
+-- The client of a turn learnt what others had seen: it is on its seat still, and its seat added nothing.
+pub record HasLearnt {M : Type 0} (old new : Turn M) : Type 0 where
+  pub client : ClientState
+  pub next : ClientState
+  pub sat : old.client.place.client ≡ Some client
+  pub sits : new.client.place.client ≡ Some next
+  pub seat : IsSameSeat client.seat next.seat
+  pub own : own next.seat.mark ≡ own client.seat.mark
+  pub group : new.client.place.group ≡ old.client.place.group
+
+-- what was seen at a place
+abbrev pub log_of : Option ClientState → List Entry
+log_of None = []
+log_of (Some c) = c.seat.mark.log
+
+abbrev pub log_at : {M : Type 0} → Turn M → List Entry
+log_at turn = log_of turn.client.place.client
+
+-- the client of the one turn has seen all that the client of the other one has
+abbrev pub Covers : {M : Type 0} → Turn M → Turn M → Type 0
+Covers turn other = IsPrefix (log_at other) (log_at turn)
+
+-- the clients of these turns sit at their places
+abbrev pub IsSitting : {M : Type 0} → Turn M → Type 0
+IsSitting turn = (c : ClientState) × (turn.client.place.client ≡ Some c)
+
+-- the first n of these clients have learnt what the client of the other turn has seen; the rest are as they were
+pub record AreConfirmed {M : Type 0} (n : ℕ) (other : Turn M) (old new : List (Turn M)) : Type 0 where
+  pub count : length new ≡ length old
+  pub each : (k : ℕ) (d : Turn M) → k < n → k < length old
+      → HasLearnt (slice_index_or old k d) (slice_index_or new k d) × Covers (slice_index_or new k d) other
+  pub rest : (k : ℕ) (d : Turn M) → n ≤ k → k < length old → slice_index_or new k d ≡ slice_index_or old k d

@@ -1,0 +1,74 @@
+//! The one record of a run: at its end one client learns what all have seen, and then each other one learns that these
+//! are all changes.
+ghost use Rattle.std.specs.Prelude.{ℕ, ◌≡◌, ◌<◌, List, length};
+ghost use Rattle.std.specs.List.{All};
+ghost use Rattle.head_word.specs.declared.entry.Entry.{Entry};
+ghost use Rattle.head_word.specs.Books.{IsOpened};
+ghost use Rattle.script_runner.specs.Commanding.{Learns};
+ghost use Rattle.script_runner.specs.Records.{IsRecordOf};
+ghost use Rattle.script_runner.specs.Sights.{sight_at};
+ghost use Rattle.script_runner.specs.Inside.Players.{players_of};
+ghost use Rattle.script_runner.specs.Inside.Records.{AreConfirmed, AreSeated, Covers, HasLearnt, IsSitting, log_at};
+ghost use Rattle.script_runner.specs.Inside.Turns.{AreOf, AreOfOneGroup};
+
+use crate::phase::Turn;
+use group_history::Mutators;
+
+/// A client learns what another one of its group has seen.
+fn hear<M: Mutators + Drop>(turn: &mut Turn<M>, other: &Turn<M>)
+    requires group { other.now.client.place.group ≡ turn.old.client.place.group }
+    ensures { Learns (sight_at other.now.client.place) turn.old.client.place turn.new.client.place }
+{
+    if let Some(seen) = other.client.place.sight() {
+        turn.client.place.learn(&seen);
+    }
+}
+
+/// A client learns what all others have seen.
+fn hear_all<M: Mutators + Drop>(turn: &mut Turn<M>, others: &[Turn<M>])
+    requires group { AreOf turn.old.client.place.group others.now }
+    requires sits { IsSitting turn.old }
+    requires all { All IsSitting others.now }
+    ensures learnt { HasLearnt turn.old turn.new }
+    ensures seen { All (Covers turn.new) others.now }
+{
+    for other in others {
+        hear(turn, other);
+    }
+}
+
+/// Each client learns what another one has seen.
+fn confirm_all<M: Mutators + Drop>(turns: &mut [Turn<M>], other: &Turn<M>)
+    requires group { AreOf other.now.client.place.group turns.old }
+    requires sits { IsSitting other.now }
+    requires all { All IsSitting turns.old }
+    ensures { AreConfirmed (length turns.old) other.now turns.old turns.new }
+{
+    for i in 0..turns.len() {
+        hear(&mut turns[i], other);
+    }
+}
+
+/// What the client of a turn has seen is a legal book.
+fn is_legal<M: Mutators + Drop>(turn: &Turn<M>)
+    requires { IsSitting turn.now }
+    ensures { IsOpened M.means (log_at turn.now) }
+{
+    if let Some(seen) = turn.client.place.sight() {
+        seen.legal();
+    }
+}
+
+/// At the end of a run one client learns what all others have seen, and the others learn that from it.
+pub(crate) fn gather<M: Mutators + Drop>(turns: &mut [Turn<M>])
+    requires one { AreOfOneGroup turns.old }
+    requires all { All IsSitting turns.old }
+    ensures { (count commit : ℕ) → AreSeated count commit (players_of turns.old) → count ≡ length turns.old
+        → 0 < length turns.old → (book : List Entry) × IsRecordOf M.means (players_of turns.old) book }
+{
+    if let Some((first, others)) = turns.split_first_mut() {
+        hear_all(first, others);
+        confirm_all(others, first);
+        is_legal(first);
+    }
+}
