@@ -32,7 +32,7 @@ same_seat s = record {
   later = record { book = refl; seat = refl; seen = ([], append-nil s.mark.log) };
 }
 
-still_same : (a b c : Seated) → IsSameSeat a b → IsSameSeat b c → IsSameSeat a c
+pub still_same : (a b c : Seated) → IsSameSeat a b → IsSameSeat b c → IsSameSeat a c
 still_same a b c p q = record {
   table = q.table ∙ p.table;
   later = record {

@@ -1,18 +1,21 @@
 -- Clients whose lines are done one by one.
 use Rattle.std.proofs.Common.{◌≡◌, ◌<◌, ◌++◌, ℕ, List, Option, Some, map, length, slice_index_or, slice_set}
 use Rattle.std.proofs.Common.{sym, subst, ap, ◌∙◌}
-use Rattle.std.proofs.lemmas.List.{get_or-map, length-map, map-set}
-use Rattle.std.proofs.lemmas.Option.{slice_get-get_or}
+use Rattle.std.proofs.lemmas.List.{get_or-map, get_or-set_same, length-map, length-set, map-set}
+use Rattle.std.proofs.lemmas.Option.{slice_get-get_or, slice_get_within}
 use Rattle.group_history.specs.Map.{Bytes}
 use Rattle.group_history.specs.Meaning.{Meanings}
 use Rattle.head_word.specs.Marks.{Known}
 use Rattle.rebase.specs.Clients.{Grouped}
 use Rattle.client_desk.specs.Told.{Told}
 use Rattle.script_parser.specs.declared.script.Command.{Command}
+use Rattle.script_runner.specs.declared.client.ScriptClient.{ScriptClient}
 use Rattle.script_runner.specs.declared.phase.Turn.{Turn}
 use Rattle.script_runner.specs.Answering.{IsToldAt}
-use Rattle.script_runner.specs.Commanding.{MayTell, Player}
+use Rattle.script_runner.specs.Commanding.{Learns, MayTell, Player}
 use Rattle.script_runner.specs.Printing.{line_text, told_text}
+use Rattle.script_runner.specs.Sights.{sight_at}
+use Rattle.script_runner.specs.Inside.Calls.{IsCalledAt}
 use Rattle.script_runner.specs.Inside.Players.{AreNewIn, player_of, players_of}
 use Rattle.script_runner.specs.Inside.Turns.{AreOf}
 use Rattle.script_runner.proofs.Openings.{of_group}
@@ -24,29 +27,60 @@ pub are_of : {M : Type 0} (means : Meanings) (group : Grouped) (count commit : �
 are_of means group count commit turns new k d below =
     of_group means group count commit k (player_of (slice_index_or turns k d).client) (new k d below)
 
--- a line was told by the client at a place
-pub told_at : {M : Type 0} (means : Meanings) (turns : List (Turn M)) (sights : List (Option Known))
-    (place : ℕ) (l : ℕ × Command) (old new : Turn M) (t : Told) (name out after : Bytes)
-    → place < length (players_of turns) → old ≡ slice_index_or turns place old
-    → MayTell means sights l.1 old.client.place t new.client.place
-    → new.client.name ≡ old.client.name → name ≡ new.client.name
-    → after ≡ out ++ line_text l.0 name (told_text l.1 t)
-    → (text : Bytes) × (after ≡ out ++ text) × IsToldAt means sights place l
-    (players_of turns) text (players_of (slice_set turns place new))
-told_at {M} means turns sights place l old new t name out after below at may same named printed =
+-- a client at a place did a command, after it learnt what was seen
+pub called_at : {M : Type 0} (means : Meanings) (turns : List (Turn M)) (sights : List (Option Known))
+    (seen : Option Known) (place : ℕ) (c : Command) (old new : Turn M) (mid : ScriptClient M) (t : Told)
+    (now : Option Known) → place < length (players_of turns) → old ≡ slice_index_or turns place old
+    → Learns seen old.client.place mid.place → mid.name ≡ old.client.name
+    → MayTell means sights c mid.place t new.client.place → new.client.name ≡ mid.name
+    → now ≡ sight_at new.client.place
+    → IsCalledAt means sights seen place c (players_of turns) t (players_of (slice_set turns place new)) now
+called_at {M} means turns sights seen place c old new mid t now below at learnt first may second sees =
     let player : Turn M → Player = λ t. player_of t.client in
-    let within : place < length turns = subst (λ n. place < n) (length-map turns player) below in (
+    let within : place < length turns = subst (λ n. place < n) (length-map turns player) below in
+    record {
+      client = player old;
+      at = slice_get-get_or (map player turns) place (player old) below
+          ∙ ap Some (get_or-map player turns place old (player old) within ∙ ap player (sym at));
+      mid = mid.place;
+      learnt = learnt;
+      next = player new;
+      may = may;
+      name = second ∙ first;
+      left = map-set player turns place new;
+      sees = sees;
+    }
+
+-- and its line was told
+pub told_at : {M : Type 0} (means : Meanings) (turns : List (Turn M)) (turn : Turn M) (sights : List (Option Known))
+    (seen : Option Known) (place : ℕ) (l : ℕ × Command) (before : List Player) (t : Told) (now : Option Known)
+    (name out after : Bytes) → IsCalledAt means sights seen place l.1 before t (players_of turns) now
+    → turn ≡ slice_index_or turns place turn → name ≡ turn.client.name
+    → after ≡ out ++ line_text l.0 name (told_text l.1 t)
+    → (text : Bytes) × (after ≡ out ++ text) × IsToldAt means sights seen place l before text (players_of turns) now
+told_at {M} means turns turn sights seen place l before t now name out after h at named printed =
+    let player : Turn M → Player = λ t. player_of t.client in
+    let below = slice_get_within before place h.client h.at in
+    let long : length turns ≡ length before =
+    sym (length-map turns player) ∙ ap length h.left ∙ length-set before place h.next in
+    let within : place < length turns = subst (λ n. place < n) (sym long) below in
+    let is : player turn ≡ h.next =
+    ap player at ∙ sym (get_or-map player turns place turn (player turn) within)
+    ∙ ap (λ ps. slice_index_or ps place (player turn)) h.left
+    ∙ get_or-set_same before place h.next (player turn) below in (
       line_text l.0 name (told_text l.1 t),
       printed,
       record {
-        client = player old;
-        at = slice_get-get_or (map player turns) place (player old) below
-            ∙ ap Some (get_or-map player turns place old (player old) within ∙ ap player (sym at));
+        client = h.client;
+        at = h.at;
+        mid = h.mid;
+        learnt = h.learnt;
         told = told_text l.1 t;
-        next = player new;
-        may = prints means sights l.1 (player old) (player new) t may;
-        name = same;
-        printed = ap (λ n. line_text l.0 n (told_text l.1 t)) (named ∙ same);
-        left = map-set player turns place new;
+        next = h.next;
+        may = prints means sights l.1 (record { name = h.client.name; place = h.mid }) h.next t h.may;
+        name = h.name;
+        printed = ap (λ n. line_text l.0 n (told_text l.1 t)) (named ∙ ap (λ (p : Player). p.name) is ∙ h.name);
+        left = h.left;
+        sees = h.sees;
       },
     )

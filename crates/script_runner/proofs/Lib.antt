@@ -5,3 +5,6 @@ mod Gathering
 mod Telling
 mod Grouping
 mod Sending
+mod Moves
+pub mod Steady
+pub mod Plainly

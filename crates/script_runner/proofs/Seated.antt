@@ -68,7 +68,7 @@ leaves_none (command.Learn place) h = h
 leaves_none (command.Watch n scan) h = h
 leaves_none (command.Poll n) h = h
 
-asks_sitting : (c : Command) (made : Call) → Asks c made → IsSitting made
+pub asks_sitting : (c : Command) (made : Call) → Asks c made → IsSitting made
 asks_sitting c (call.Sit id) h = sits_none c id h
 asks_sitting c call.Leave h = leaves_none c h
 asks_sitting c other h = tt
@@ -80,7 +80,7 @@ begins xs ys zs p q =
 
 module _ (count commit number : ℕ) where
   -- the same client, which knows no less
-  later : (before after : PlaceState) (was : IsSeated count commit number before) (next : ClientState)
+  pub later : (before after : PlaceState) (was : IsSeated count commit number before) (next : ClientState)
       → after.client ≡ Some next → after.asking ≡ None → IsSameSeat was.client.seat next.seat
       → IsSeated count commit number after
   later before after was next sits calm same = record {

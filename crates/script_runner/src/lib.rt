@@ -3,8 +3,8 @@
 //! A script is checked whole before anything runs (`script_parser`). `runner` then runs its phases one after the other:
 //! in a phase each client with lines has a thread of its own, and what they print is written client by client, in the
 //! order of their header lines. `process` is the same over a reader and two writers, with the statuses of a process.
-//! `clients` does the lines of clients one by one. What a client does, and keeps under numbers, is a place of
-//! `client_desk`; `words` prints what a call came to.
+//! `clients` does the lines of clients one by one, each behind all before it. What a client does, and keeps under
+//! numbers, is a place of `client_desk`; `words` prints what a call came to.
 //!
 //! Decisions. What the clients of a script stand for is plain data (`Player`: a name, and how a place stands), of which the
 //! clause `written` speaks; what a call may tell is `MayAnswerWaiting` of `client_desk`. Behind the last phase the clients

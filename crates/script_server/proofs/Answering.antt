@@ -12,14 +12,16 @@ use Rattle.script_parser.specs.declared.script.Line.{Line}
 use Rattle.script_parser.specs.Context.{Context, Lines}
 use Rattle.script_parser.specs.Kept.{bare, new_phase, without_lines}
 use Rattle.script_parser.specs.Reading.{AsksFor, bytes_said_with}
+use Rattle.script_parser.specs.Scripts.{line_said}
 use Rattle.script_runner.specs.Phases.{all_sights}
+use Rattle.script_runner.proofs.Plainly.{told_plain}
 use Rattle.script_server.specs.Answers.{Answers, AnswersBy, BeginsPhase, Does, Opens, Says, given_before}
 use Rattle.script_server.specs.Answers.{behind_rules, given_in, ok_text, rules_given}
-use Rattle.script_server.specs.Standing.{Standing}
+use Rattle.script_server.specs.Standing.{Standing, means_in}
 use Rattle.script_server.specs.declared.heads.Head.{Head}
 use Rattle.script_server.specs.declared.heads.Head.TheVariants as head
 use Rattle.script_server.specs.Inside.Stages.{HasDone, IsFirstPhase, IsHead, IsHeadOf, IsNoCommand, IsOpen}
-use Rattle.script_server.specs.Inside.Stages.{IsPlaced}
+use Rattle.script_server.specs.Inside.Stages.{IsPlaced, WhereWhole}
 
 -- ---- rules
 
@@ -90,21 +92,27 @@ placed n (asked.Command place line) before said there asks =
 -- what a line asks was done
 pub answers_done : (what : Asked) (n : ℕ) (line : Bytes) (before : Standing) (text : Bytes) (after : Standing)
     (said : Context) → IsOpen before → bytes_said_with before.said n line ≡ Ok said → AsksFor n before.said what said
-    → HasDone what n (record before { said = without_lines said }) text after → Answers n line before text after
-answers_done asked.Nothing n line before text after said there right asks done =
+    → HasDone what n (record before { said = without_lines said }) text after
+    → WhereWhole before after (Answers n line before text after)
+answers_done asked.Nothing n line before text after said there right asks done was all =
     answers_said n line before text after asked.Nothing said (given_in_open before line there) right asks done
-answers_done asked.Phase n line before text after said there right asks done =
+answers_done asked.Phase n line before text after said there right asks done was all =
     answers_said n line before text after asked.Phase said (given_in_open before line there) right asks
     (done.0, begins_next before (without_lines said) after there done.1)
-answers_done (asked.Command place l) n line before text after said there right asks done =
+answers_done (asked.Command place l) n line before text after said there right asks done was all =
     answers_said n line before text after (asked.Command place l) said (given_in_open before line there) right asks
-    (record { told = done.told; left = done.left })
+    (record {
+      told = done.told;
+      plain = told_plain (means_in before) before.sights before.seen place (line_said l) before.players text
+          after.players after.seen done.told was all;
+      left = done.left;
+    })
 
 pub on_done : {E : Type 0} (what : Asked) (r : Result (Unit {0}) E) (n : ℕ) (line : Bytes) (before : Standing)
     (text : Bytes) (after : Standing) (said : Context) → IsOpen before → bytes_said_with before.said n line ≡ Ok said
     → AsksFor n before.said what said
     → OnOk r (HasDone what n (record before { said = without_lines said }) text after)
-    → OnOk r (Answers n line before text after)
+    → OnOk r (WhereWhole before after (Answers n line before text after))
 on_done what (Ok u) n line before text after said there right asks done =
     answers_done what n line before text after said there right asks done
 on_done what (Err e) n line before text after said there right asks done = tt
@@ -122,6 +130,7 @@ answers_first n line before mid after first opens =
       rules = kept.rules;
       players = kept.players;
       sights = kept.sights;
+      seen = kept.seen;
     } in
     answers_said n line before (ok_text n) after asked.Phase first.said first.other first.right first.asks
     (refl, subst (λ ps. BeginsPhase ps before (without_lines first.said) after) (sym first.none) opened)

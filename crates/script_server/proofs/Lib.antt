@@ -2,3 +2,4 @@ mod Reading
 mod Served
 mod Answering
 mod Opening
+mod Settled

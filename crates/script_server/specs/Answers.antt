@@ -21,8 +21,9 @@ use Rattle.script_parser.specs.Scripts.{line_said}
 use Rattle.script_parser.specs.Words.{more, word}
 use Rattle.script_runner.specs.Answering.{IsToldAt}
 use Rattle.script_runner.specs.Phases.{all_sights}
+use Rattle.script_runner.specs.Plain.{IsPlain}
 use Rattle.script_runner.specs.Runs.{AreNew, identity_of}
-use Rattle.script_server.specs.Standing.{Standing, means_in, rules_in}
+use Rattle.script_server.specs.Standing.{Standing, means_in, record_in, rules_in}
 
 -- ---- the texts of answers
 
@@ -85,6 +86,7 @@ pub record Opens (before : Standing) (kept : Context) (after : Standing) : Type 
   pub rules : after.rules ≡ Some (rules_in before)
   pub players : AreNew (means_in before) (identity_of kept.group kept.profile kept.schema) kept.clients after.players
   pub sights : after.sights ≡ all_sights after.players
+  pub seen : after.seen ≡ None
 
 -- A phase begins where these have: in it clients learn what others have seen until now.
 abbrev pub BeginsPhase : List (List Lines) → Standing → Context → Standing → Type 0
@@ -93,12 +95,17 @@ BeginsPhase (p ∷ ps) before said after = after ≡ record before { said = said
 
 -- ---- any line
 
--- the client at a place does the command of its line
+-- The client at a place does the command of its line. It is told what the group of one thread replies (`plain`) at the
+-- state after the changes of all lines before, and the record gains the change that this reply stands for; or the line
+-- is refused for want of memory, slots or stamps, and the record stays. `told` says of that what is printed, which
+-- cause a refusal has, and what the client keeps.
 pub record Tells (place : ℕ) (line : Line) (before : Standing) (said : Context) (text : Bytes)
     (after : Standing) : Type 0
   where
-    pub told : IsToldAt (means_in before) before.sights place (line_said line) before.players text after.players
-    pub left : after ≡ record before { said = said; players = after.players }
+    pub told : IsToldAt (means_in before) before.sights before.seen place (line_said line) before.players text
+        after.players after.seen
+    pub plain : IsPlain (means_in before) line.command told.client.place told.may.t (record_in before) (record_in after)
+    pub left : after ≡ record before { said = said; players = after.players; seen = after.seen }
 
 -- what a line asks is done, and this was then said
 abbrev pub Does : Asked → ℕ → Standing → Context → Bytes → Standing → Type 0

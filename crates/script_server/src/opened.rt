@@ -2,10 +2,12 @@
 ghost use Rattle.std.specs.Prelude.{◌≡◌, ◌+◌, ◌-◌, ◌^◌, ◌<◌, [], IfOk, OnErr, OnOk, length};
 ghost use Rattle.std.specs.Io.KnownBytes.{Appends};
 ghost use Rattle.script_parser.specs.declared.script.Asked.TheVariants as kind;
+ghost use Rattle.script_runner.specs.Settling.{AreSteady};
 ghost use Rattle.script_server.specs.Answers.{Answers, IsLine, Opens, ok_text};
 ghost use Rattle.script_server.specs.Serving.{HasEnded, Place};
 ghost use Rattle.script_server.specs.Standing.{Standing, rules_in};
 ghost use Rattle.script_server.specs.Inside.Stages.{HasAnswered, HasBegun, HasDone, IsPlaced, IsServed, IsOpen};
+ghost use Rattle.script_server.specs.Inside.Stages.{IsWholeAt, StaysSteady, WhereWhole};
 ghost use Rattle.script_server.specs.Inside.Stages.{heads_stand, opened_stand, place_of};
 ghost use Rattle.script_server.specs.Inside.Writes.{WritesSome};
 
@@ -55,9 +57,10 @@ impl<B: Picked + Sync + Drop> Opened<B> {
         text: &mut Vec<u8>,
     ) -> Result<(), AllocError>
         requires { IsOpen (opened_stand self.old) }
-        ensures answered { OnOk result (Answers number line.now (opened_stand self.old) text.new.items
-            (opened_stand self.new)) }
+        ensures answered { OnOk result (WhereWhole (opened_stand self.old) (opened_stand self.new)
+            (Answers number line.now (opened_stand self.old) text.new.items (opened_stand self.new))) }
         ensures there { OnOk result (IsOpen (opened_stand self.new)) }
+        ensures steady { StaysSteady (opened_stand self.old) (opened_stand self.new) }
     {
         text.clear();
         match self.reader.take(number, line) {
@@ -74,6 +77,7 @@ impl<B: Picked + Sync + Drop> Opened<B> {
             (opened_stand self.new)) }
         ensures said { (opened_stand self.new).said ≡ (opened_stand self.old).said }
         ensures players { (opened_stand self.new).players ≡ (opened_stand self.old).players }
+        ensures seen { (opened_stand self.new).seen ≡ (opened_stand self.old).seen }
     {
         self.clients.begin_phase()?;
         print_ok(text, number)
@@ -93,6 +97,7 @@ impl<B: Picked + Sync + Drop> Opened<B> {
             (opened_stand self.new)) }
         ensures said { (opened_stand self.new).said ≡ (opened_stand self.old).said }
         ensures count { length (opened_stand self.new).players ≡ length (opened_stand self.old).players }
+        ensures steady { StaysSteady (opened_stand self.old) (opened_stand self.new) }
     {
         match asked {
             Asked::Nothing => print_ok(text, number),
@@ -114,9 +119,10 @@ impl<B: Picked + Sync + Drop> Opened<B> {
         ensures turned { IfOk result (λ is. HasAnswered is
             (place_of (opened_stand self.old) number (I.remaining input.old) (W.contents out.old))
             (opened_stand self.new) (I.remaining input.new) (W.contents out.new)) }
-        ensures ended { OnErr result (HasEnded
+        ensures ended { OnErr result (WhereWhole (opened_stand self.old) (opened_stand self.new) (HasEnded
             (place_of (opened_stand self.old) number (I.remaining input.old) (W.contents out.old))
-            (W.contents out.new)) }
+            (W.contents out.new))) }
+        ensures steady { StaysSteady (opened_stand self.old) (opened_stand self.new) }
     {
         if !read_line(input, &mut buffers.line)? {
             return Ok(false);
@@ -136,12 +142,13 @@ impl<B: Picked + Sync + Drop> Opened<B> {
         buffers: &mut Buffers,
     ) -> Result<(), Stop>
         requires { IsOpen (opened_stand self.old) }
-        ensures served { OnOk result (IsServed
+        ensures served { OnOk result (WhereWhole (opened_stand self.old) (opened_stand self.new) (IsServed
             (place_of (opened_stand self.old) first (I.remaining input.old) (W.contents out.old))
-            (W.contents out.new)) }
-        ensures ended { OnErr result (HasEnded
+            (W.contents out.new))) }
+        ensures ended { OnErr result (WhereWhole (opened_stand self.old) (opened_stand self.new) (HasEnded
             (place_of (opened_stand self.old) first (I.remaining input.old) (W.contents out.old))
-            (W.contents out.new)) }
+            (W.contents out.new))) }
+        ensures steady { StaysSteady (opened_stand self.old) (opened_stand self.new) }
     {
         for number in first..u64::MAX {
             if !self.turn(rt, number, input, out, buffers)? {
@@ -164,13 +171,28 @@ impl<B: Picked + Sync + Drop> Opened<B> {
         requires number { number < 2 ^ 64 - 1 }
         ensures served { (old : Place) (before : Standing)
             → HasBegun old (place_of before number (I.remaining input.old) (W.contents out.old))
-            → Opens before before.said (opened_stand self.old) → OnOk result (IsServed old (W.contents out.new)) }
+            → Opens before before.said (opened_stand self.old)
+            → OnOk result (WhereWhole (opened_stand self.old) (opened_stand self.new)
+            (IsServed old (W.contents out.new))) }
         ensures ended { (old : Place) (before : Standing)
             → HasBegun old (place_of before number (I.remaining input.old) (W.contents out.old))
-            → Opens before before.said (opened_stand self.old) → OnErr result (HasEnded old (W.contents out.new)) }
+            → Opens before before.said (opened_stand self.old)
+            → OnErr result (WhereWhole (opened_stand self.old) (opened_stand self.new)
+            (HasEnded old (W.contents out.new))) }
+        ensures steady { StaysSteady (opened_stand self.old) (opened_stand self.new) }
     {
         answer_first(number, out, &mut buffers.text)?;
         self.serve(rt, number + 1, input, out, buffers)
+    }
+
+    /// Ends the group behind the last line that was done.
+    fn settle(self)
+        requires steady { AreSteady (opened_stand self).players (opened_stand self).seen }
+        ensures { IsWholeAt (opened_stand self) }
+    {
+        let Opened { reader, clients } = self;
+        drop(reader);
+        clients.settle();
     }
 }
 
@@ -206,5 +228,7 @@ pub(crate) fn serve_phases<R: AllocGlobal + Wait, I: BufRead, W: Write, B: Picke
         → OnErr result (HasEnded old (W.contents out.new)) }
 {
     let mut opened = Opened::<B>::open(rt.alloc(), heads)?;
-    opened.serve_first(rt, number, input, out, buffers)
+    let result = opened.serve_first(rt, number, input, out, buffers);
+    opened.settle();
+    result
 }

@@ -45,7 +45,9 @@ fn serve_input<R: AllocGlobal + Wait, I: Read + Drop, W: Write>(
 /// Answers each line of an input before it reads the next (`docs/SERVE.md`), and answers the status of a process: 0
 /// where the input was answered to its end, 3 where memory was refused or the reader or the writer failed. At status 3
 /// the first lines were answered, and a beginning at most of one answer more was written, whose line may have been
-/// done. What failed is a line on `err`; a failed write there changes nothing. A change may wait for others.
+/// done. A client's line is answered what the group of one thread replies behind all lines before it, or it is refused
+/// for want of memory, slots or stamps. What failed is a line on `err`; a failed write there changes nothing. A change
+/// may wait for others.
 pub fn program<R: AllocGlobal + Wait, I: Read + Drop, W: Write, E: Write>(
     rt: &R,
     input: I,

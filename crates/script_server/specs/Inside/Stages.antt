@@ -7,22 +7,25 @@ use Rattle.rule_mutators.specs.declared.mutators.Picked as Picked
 use Rattle.rule_mutators.specs.Views.{rules_of}
 use Rattle.script_parser.specs.declared.script.Asked.{Asked}
 use Rattle.script_parser.specs.declared.script.Asked.TheVariants as asked
+use Rattle.script_parser.specs.declared.script.Line.{Line}
 use Rattle.script_parser.specs.Context.{Context}
 use Rattle.script_parser.specs.Kept.{without_lines}
 use Rattle.script_parser.specs.Reading.{AsksFor, bytes_said_with, kept_by}
-use Rattle.script_runner.specs.Answering.{players_in, sights_in}
+use Rattle.script_parser.specs.Scripts.{line_said}
+use Rattle.script_runner.specs.Answering.{IsToldAt, players_in, seen_in, sights_in}
 use Rattle.script_runner.specs.Commanding.{Player}
 use Rattle.script_runner.specs.Phases.{all_sights}
+use Rattle.script_runner.specs.Settling.{AreSteady, IsWhole, StaySteady}
 use Rattle.script_server.specs.declared.heads.Heads.{Heads}
 use Rattle.script_server.specs.declared.heads.Head.{Head}
 use Rattle.script_server.specs.declared.heads.Head.TheVariants as head
 use Rattle.script_server.specs.declared.heads.Turn.{Turn}
 use Rattle.script_server.specs.declared.heads.Turn.TheVariants as turn
 use Rattle.script_server.specs.declared.opened.Opened.{Opened}
-use Rattle.script_server.specs.Answers.{Answers, Tells, given_in, ok_text}
+use Rattle.script_server.specs.Answers.{Answers, given_in, ok_text}
 use Rattle.script_server.specs.Lines.{HasTaken}
 use Rattle.script_server.specs.Serving.{Place, Served}
-use Rattle.script_server.specs.Standing.{Standing}
+use Rattle.script_server.specs.Standing.{Standing, means_in}
 
 -- how things stand before the first phase
 abbrev pub heads_stand : Heads → Standing
@@ -31,6 +34,7 @@ heads_stand heads = record {
   rules = option_map rules_of heads.rules;
   players = [];
   sights = [];
+  seen = None;
 }
 
 -- and from it on, where the group has the rules that are picked
@@ -40,6 +44,7 @@ opened_stand {picked} opened = record {
   rules = Some picked.rules;
   players = players_in opened.clients;
   sights = sights_in opened.clients;
+  seen = seen_in opened.clients;
 }
 
 -- a phase has begun, and each client that was said is there
@@ -47,17 +52,37 @@ pub record IsOpen (s : Standing) : Type 0 where
   pub begun : 0 < length s.said.phases
   pub clients : length s.players ≡ length s.said.clients
 
+-- Whether none but the clients changes the group is known at the end alone, where they learn of each other.
+
+-- but for the opening the clients have made all moves that are seen there
+abbrev pub IsWholeAt : Standing → Type 0
+IsWholeAt s = IsWhole s.players s.seen
+
+-- what is known of the clients in between stays known, and where all moves are theirs at the end, they were before
+abbrev pub StaysSteady : Standing → Standing → Type 0
+StaysSteady old new = StaySteady old.players old.seen new.players new.seen
+
+-- this holds where all moves that are seen at the end are the clients'
+abbrev pub WhereWhole : Standing → Standing → Type 0 → Type 0
+WhereWhole old new P = AreSteady old.players old.seen → IsWholeAt new → P
+
 -- the client of a command is one of these
 abbrev pub IsPlaced : Asked → List Player → Type 0
 IsPlaced (asked.Command place line) players = place < length players
 IsPlaced what players = ⊤
+
+-- the client at a place did the command of its line
+pub record HasTold (place : ℕ) (line : Line) (before : Standing) (text : Bytes) (after : Standing) : Type 0 where
+  pub told : IsToldAt (means_in before) before.sights before.seen place (line_said line) before.players text
+      after.players after.seen
+  pub left : after ≡ record before { players = after.players; seen = after.seen }
 
 -- What a line asks is done, where that is said already which it says, and this is its answer.
 abbrev pub HasDone : Asked → ℕ → Standing → Bytes → Standing → Type 0
 HasDone asked.Nothing n before text after = (text ≡ ok_text n) × (after ≡ before)
 HasDone asked.Phase n before text after = (text ≡ ok_text n)
     × (after ≡ record before { sights = all_sights before.players })
-HasDone (asked.Command place line) n before text after = Tells place line before before.said text after
+HasDone (asked.Command place line) n before text after = HasTold place line before text after
 
 -- The line of this number begins the first phase. What it says is said, and it isn't answered yet.
 pub record IsFirstPhase (n : ℕ) (line : Bytes) (before after : Standing) : Type 0 where
@@ -118,5 +143,6 @@ AreHeads (Some n) old s input output = (mid : Place) × Served old mid × HasBeg
 
 -- how a turn from the first phase on did, where there was one more line or none
 abbrev pub HasAnswered : Bool → Place → Standing → Option Bytes → Option Bytes → Type 0
-HasAnswered true old s input output = Served old (place_of s (old.number + 1) input output) × IsOpen s
+HasAnswered true old s input output =
+    WhereWhole old.standing s (Served old (place_of s (old.number + 1) input output)) × IsOpen s
 HasAnswered false old s input output = IsLast old output

@@ -10,4 +10,5 @@ invariant_of-self g c =
       of_group = was.of_group;
       seen_there = c.in_ok-self.ensures.there (arc_value was.group)
           (subst (AreOf (arc_value was.group)) (sym c.deref.ensures.value) was.of_group);
+      seen_here = was.seen_here;
     }

@@ -15,6 +15,7 @@ invariant_of-result g c =
     record {
       of_group = of;
       seen_there = c.in_ok-sights.ensures.there group (subst (AreOf group) (sym c.deref-2.ensures.value) of);
+      seen_here = λ known is. absurd (cc is);
     }
 
 pub returns-clause-new : goal.returns-clause-new

@@ -8,7 +8,7 @@ use Rattle.script_server.proofs.opened.Opened.serve_first.Goals as goal
 pub returns-in_err-answer_first-clause-ended : goal.returns-in_err-answer_first-clause-ended
 returns-in_err-answer_first-clause-ended g c old before begun opens =
     on_err c.from_residual.result
-    (ended_first old
+    (λ was all. ended_first old
     (place_of before c.args.number (g.I.Read.remaining c.args.input.now) (g.W.Write.contents c.args.out.now))
     (opened_stand c.args.self.now) (g.W.Write.contents c.answer_first.new.out) begun opens
     c.in_err-answer_first.ensures.cut)
@@ -18,15 +18,15 @@ returns-clause-served g c old before begun opens =
     let at = place_of before c.args.number (g.I.Read.remaining c.args.input.now) (g.W.Write.contents c.args.out.now) in
     let next = place_of (opened_stand c.args.self.now) (c.args.number + 1) (g.I.Read.remaining c.args.input.now)
     (g.W.Write.contents c.answer_first.new.out) in
-    on_ok_weaker c.serve.result (end_on old next (g.W.Write.contents c.serve.new.out)
+    on_ok_weaker c.serve.result (λ rest was all. end_on old next (g.W.Write.contents c.serve.new.out)
     (served_first old at (opened_stand c.args.self.now) (g.W.Write.contents c.answer_first.new.out) begun opens
-    c.in_ok-answer_first.ensures.line c.in_ok-answer_first.ensures.whole)) c.serve.ensures.served
+    c.in_ok-answer_first.ensures.line c.in_ok-answer_first.ensures.whole) (rest was all)) c.serve.ensures.served
 
 pub returns-clause-ended : goal.returns-clause-ended
 returns-clause-ended g c old before begun opens =
     let at = place_of before c.args.number (g.I.Read.remaining c.args.input.now) (g.W.Write.contents c.args.out.now) in
     let next = place_of (opened_stand c.args.self.now) (c.args.number + 1) (g.I.Read.remaining c.args.input.now)
     (g.W.Write.contents c.answer_first.new.out) in
-    on_err_weaker c.serve.result (ended_on old next (g.W.Write.contents c.serve.new.out)
+    on_err_weaker c.serve.result (λ rest was all. ended_on old next (g.W.Write.contents c.serve.new.out)
     (served_first old at (opened_stand c.args.self.now) (g.W.Write.contents c.answer_first.new.out) begun opens
-    c.in_ok-answer_first.ensures.line c.in_ok-answer_first.ensures.whole)) c.serve.ensures.ended
+    c.in_ok-answer_first.ensures.line c.in_ok-answer_first.ensures.whole) (rest was all)) c.serve.ensures.ended

@@ -1,0 +1,303 @@
+-- Clients whose lines are done one by one: what stays known of them, and that nobody else changes their group.
+use Rattle.std.proofs.Common.{◌≡◌, ◌<◌, ◌+◌, ◌-◌, ◌≤◌, ◌++◌, ℕ, zero, suc, inl, inr, List, [], ◌∷◌, Option, Some, None}
+use Rattle.std.proofs.Common.{length, map, filter, refl, sym, ap, subst, ◌∙◌, arith, slice_index_or, slice_set}
+use Rattle.std.proofs.lemmas.Bool.Decides.{eqb_tells}
+use Rattle.std.proofs.lemmas.List.{append-nil, get_or-map, get_or-set_other, get_or-set_same, length-map, length-set}
+use Rattle.std.proofs.lemmas.List.Sums.{sum-map, sum_by-cons, sum_by-set}
+use Rattle.std.proofs.lemmas.Option.{get_or_from_slice_get, slice_get-get_or, slice_get_within}
+use Rattle.std.specs.List.{sum, sum_by}
+use Rattle.std.specs.Prelude.{option_map, slice_get}
+use mathlib.Core.List.{IsPrefix}
+use Rattle.group_history.specs.Map.{Bytes}
+use Rattle.group_history.specs.Meaning.{Meanings}
+use Rattle.head_word.specs.declared.entry.Entry.{Entry}
+use Rattle.head_word.specs.Books.{opening, opening_ref, record_of, with_change}
+use Rattle.head_word.specs.Marks.{Known, own}
+use Rattle.head_word.specs.Tallies.{mine}
+use Rattle.answered.specs.Answered.{is_move, own_moves}
+use Rattle.commit_graph.specs.Seats.{IsSameSeat}
+use Rattle.push_body.specs.declared.identities.Identity.{Identity}
+use Rattle.rebase.specs.Clients.{ClientState}
+use Rattle.client_desk.specs.Kept.{kept_at}
+use Rattle.client_desk.specs.Learning.{LearnsAt, sight_of}
+use Rattle.client_desk.specs.Places.{PlaceState}
+use Rattle.client_desk.specs.Told.{Told}
+use Rattle.client_desk.proofs.Remaining.{remains}
+use Rattle.script_parser.specs.declared.script.Command.{Command}
+use Rattle.script_parser.specs.declared.script.Command.TheVariants as command
+use Rattle.script_runner.specs.declared.phase.Turn.{Turn}
+use Rattle.script_runner.specs.Answering.{IsToldAt, record_seen}
+use Rattle.script_runner.specs.Commanding.{Learns, MayTell, Player}
+use Rattle.script_runner.specs.Records.{IsRecordOf}
+use Rattle.script_runner.specs.Runs.{AreNew, IsNew, seats_for}
+use Rattle.script_runner.specs.Settling.{AreSteady, IsWhole, StaySteady, moves_seen, own_at, own_count}
+use Rattle.script_runner.specs.Sights.{sight_at}
+use Rattle.script_runner.specs.Inside.Calls.{IsCalledAt}
+use Rattle.script_runner.specs.Inside.Exact.{IsExact, IsExactAt}
+use Rattle.script_runner.specs.Inside.Players.{player_of, players_of}
+use Rattle.script_runner.specs.Inside.Records.{AreSeated, IsSeated}
+use Rattle.script_runner.proofs.Gathering.{still_same}
+use Rattle.script_runner.proofs.Moves.{at_point, counted_book, left_alone, moves, moves_grow, moves_opened, none_opened}
+use Rattle.script_runner.proofs.Moves.{others_grow, own_within, record_same}
+use Rattle.script_runner.proofs.Seated.{asks_sitting, begins, begun, later}
+
+-- ---- at the beginning
+
+seats_are : (n i : ℕ) → i < n → seats_for n ≡ n
+seats_are zero i below = absurd (omega (below, arith))
+seats_are (suc n) i below = refl
+
+no_moves : (players : List Player)
+    → ((i : ℕ) (p : Player) → i < length players → own_at (slice_index_or players i p) ≡ 0)
+    → sum_by own_at players ≡ 0
+no_moves [] each = refl
+no_moves (p ∷ ps) each =
+    let first : own_at p ≡ 0 = each 0 p (omega arith) in
+    let rest = no_moves ps (λ i q below. each (suc i) q (omega (below, arith))) in
+    sum_by-cons own_at p ps ∙ (let total : own_at p + sum_by own_at ps ≡ 0 = omega (arith, first, rest) in total)
+
+-- a new client has made no move
+none_own : (means : Meanings) (group : _) (count commit number : ℕ) (p : Player)
+    → IsNew means group count commit number p → own_at p ≡ 0
+none_own means group count commit number p new =
+    let none : own new.sat.client.seat.mark ≡ [] =
+    new.sat.looked.own ∙ ap own new.mark ∙ none_opened number count (opening_ref commit) in
+    ap (λ (q : PlaceState). own_count q.client) new.sat.left ∙ ap (λ es. length (filter is_move es)) none
+
+pub steady_new : (means : Meanings) (identity : Identity) (lines : List (Bytes × Bytes)) (players : List Player)
+    → AreNew means identity lines players → AreSteady players None
+steady_new means identity lines players new =
+    let n : ℕ = length players in
+    record {
+      commit = new.commit;
+      seated = λ i p below.
+          subst (λ k. IsSeated k new.commit i (slice_index_or players i p).place) (seats_are n i below)
+          (begun (seats_for n) new.commit i means new.group (slice_index_or players i p) (new.all i p below));
+      counted = omega (
+        no_moves players (λ i p below.
+            none_own means new.group (seats_for n) new.commit i (slice_index_or players i p) (new.all i p below)),
+        arith,
+      );
+      last = λ known is. absurd (cc is);
+    }
+
+-- ---- a line
+
+-- The client learnt what the lines before have seen: it is on its seat still, made no move, and no run is asked for.
+pub record HasCaughtUp (c : ClientState) (seen : Option Known) (after : PlaceState) : Type 0 where
+  pub client : ClientState
+  pub sits : after.client ≡ Some client
+  pub calm : after.asking ≡ None
+  pub seat : IsSameSeat c.seat client.seat
+  pub own : own client.seat.mark ≡ own c.seat.mark
+  pub sees : (known : Known) → seen ≡ Some known → IsPrefix known.log client.seat.mark.log
+
+pub caught_up : (c : ClientState) (seen : Option Known) (before after : PlaceState) → before.client ≡ Some c
+    → before.asking ≡ None → Learns seen before after → HasCaughtUp c seen after
+caught_up c None before after sits calm h = record {
+  client = c;
+  sits = ap (λ (p : PlaceState). p.client) h ∙ sits;
+  calm = ap (λ (p : PlaceState). p.asking) h ∙ calm;
+  seat = record {
+    table = refl;
+    later = record { book = refl; seat = refl; seen = ([], append-nil c.seat.mark.log) };
+  };
+  own = refl;
+  sees = λ known is. absurd (cc is);
+}
+caught_up c (Some seen) before after sits calm h =
+    let l = subst (λ o. LearnsAt o seen before after) sits h in
+    record {
+      client = l.next;
+      sits = ap (λ (p : PlaceState). p.client) l.left;
+      calm = ap (λ (p : PlaceState). p.asking) l.left ∙ calm;
+      seat = l.looked.seat;
+      own = l.looked.own;
+      sees = λ known is.
+          let same : seen ≡ known = cc is in
+          subst (λ (m : Known). IsPrefix m.log l.next.seat.mark.log) same l.seen;
+    }
+
+-- the client that did a command sits there still, on its seat
+sits_on : (means : Meanings) (sights : List (Option Known)) (c : Command) (m : ClientState) (before : PlaceState)
+    (t : Told) (after : PlaceState) → before.client ≡ Some m → before.asking ≡ None
+    → MayTell means sights c before t after
+    → (d : ClientState) × (after.client ≡ Some d) × (after.asking ≡ None) × IsSameSeat m.seat d.seat
+sits_on means sights (command.Learn place) m before t after sits calm h =
+    let k = caught_up m (kept_at sights place) before after sits calm h.learnt in (k.client, k.sits, k.calm, k.seat)
+sits_on means sights other m before t after sits calm h =
+    let r = remains means m before after t sits calm h.made (asks_sitting other h.made h.asked) h.may in
+    (r.0, r.1, r.2, r.4)
+
+-- the client at the place has seen all moves that the lines before have seen
+sees_moves : (seen : Option Known) (log : List Entry) (count commit : ℕ)
+    → IsPrefix (opening count (opening_ref commit)) log
+    → ((known : Known) → seen ≡ Some known → IsPrefix known.log log) → moves_seen seen ≤ moves log
+sees_moves None log count commit opened sees =
+    omega (moves_grow (opening count (opening_ref commit)) log opened, moves_opened count (opening_ref commit), arith)
+sees_moves (Some known) log count commit opened sees = moves_grow known.log log (sees known refl)
+
+-- and where it has seen no more moves, the record is that one
+sees_record : (seen : Option Known) (log : List Entry) (count commit : ℕ)
+    → IsPrefix (opening count (opening_ref commit)) log
+    → ((known : Known) → seen ≡ Some known → IsPrefix known.log log) → moves log ≡ moves_seen seen
+    → record_of log ≡ record_seen seen
+sees_record None log count commit opened sees same =
+    record_same (opening count (opening_ref commit)) log opened (same ∙ sym (moves_opened count (opening_ref commit)))
+sees_record (Some known) log count commit opened sees same = record_same known.log log (sees known refl) same
+
+exact_call : (means : Meanings) (seen : Option Known) (old new : Known) (seat : new.seat ≡ old.seat)
+    (pre : IsPrefix old.log new.log)
+    → moves old.log + length (own_moves new) ≡ moves new.log + length (own_moves old)
+    → record_of old.log ≡ record_seen seen → IsExact means seen old new
+exact_call means seen old new seat pre alone before = record {
+  before = before;
+  alone =
+      let same : moves new.log - length (own_moves new) ≡ moves old.log - length (own_moves old) =
+      omega (alone, own_within old, own_within new, arith) in same;
+  point = λ change log p. (at_point old new seat pre alone means change log p).0 ∙ before;
+  behind = λ change log p.
+      (at_point old new seat pre alone means change log p).1 ∙ ap (λ w. w ++ with_change change []) before;
+  none = λ same. left_alone old new seat pre alone same ∙ before;
+}
+
+-- what a line did of that is known of it
+record HasGone (means : Meanings) (seen : Option Known) (before : List Player) (mid next : PlaceState)
+    (after : List Player) (now : Option Known) : Type 0 where
+  steady : AreSteady after now
+  whole : IsWhole after now → IsWhole before seen
+  exact : IsWhole after now → IsExactAt means seen mid next
+
+went : (means : Meanings) (sights : List (Option Known)) (seen : Option Known) (place : ℕ) (c : Command)
+    (before : List Player) (client next : Player) (mid : PlaceState) (t : Told) → slice_get before place ≡ Some client
+    → Learns seen client.place mid → MayTell means sights c mid t next.place → AreSteady before seen
+    → HasGone means seen before mid next.place (slice_set before place next) (sight_at next.place)
+went means sights seen place c before client next mid t at learnt may was =
+    let n : ℕ = length before in
+    let below = slice_get_within before place client at in
+    let here : slice_index_or before place client ≡ client = get_or_from_slice_get before place client client at in
+    let seated : IsSeated n was.commit place client.place =
+    subst (λ (p : Player). IsSeated n was.commit place p.place) here (was.seated place client below) in
+    let k = caught_up seated.client seen client.place mid seated.sits seated.calm learnt in
+    let d = sits_on means sights c k.client mid t next.place k.sits k.calm may in
+    let after : List Player = slice_set before place next in
+    let m = k.client.seat.mark in let e = d.0.seat.mark in let pre = d.3.later.seen in
+    let end : IsSeated n was.commit place next.place =
+    later n was.commit place client.place next.place seated d.0 d.1 d.2
+    (still_same seated.client.seat k.client.seat d.0.seat k.seat d.3) in
+    let opened = begins (opening n (opening_ref was.commit)) seated.client.seat.mark.log m.log seated.opened
+    k.seat.later.seen in
+    let sight : sight_at next.place ≡ Some (sight_of d.0) = ap (option_map sight_of) d.1 in
+    let total = sum_by-set own_at before place next client below in
+    let own_c : own_at (slice_index_or before place client) ≡ length (own_moves seated.client.seat.mark) =
+    ap own_at here ∙ ap own_count seated.sits in
+    let own_d : own_at next ≡ length (own_moves e) = ap own_count d.1 in
+    let own_m : length (own_moves m) ≡ length (own_moves seated.client.seat.mark) =
+    ap (λ es. length (filter is_move es)) k.own in
+    let grow = others_grow m e d.3.later.seat pre in
+    let low = sees_moves seen m.log n was.commit opened k.sees in
+    let long : length after ≡ n = length-set before place next in
+    let now_moves : moves_seen (sight_at next.place) ≡ moves e.log = ap moves_seen sight in
+    record {
+      steady = record {
+        commit = was.commit;
+        seated = λ i p within. elim (eqb_tells i place) [
+          | inl is ↦
+              let now : slice_index_or after i p ≡ next =
+              ap (λ j. slice_index_or after j p) is.1 ∙ get_or-set_same before place next p below in
+              subst (λ (q : Player). IsSeated (length after) was.commit i q.place) (sym now)
+              (subst (λ j. IsSeated (length after) was.commit j next.place) (sym is.1)
+              (subst (λ j. IsSeated j was.commit place next.place) (sym long) end))
+          | inr not ↦
+              let same : slice_index_or after i p ≡ slice_index_or before i p =
+              get_or-set_other before place i next p not.1 in
+              subst (λ (q : Player). IsSeated (length after) was.commit i q.place) (sym same)
+              (subst (λ j. IsSeated j was.commit i (slice_index_or before i p).place) (sym long)
+              (was.seated i p (omega (within, long, arith))))
+        ];
+        counted = omega (total, own_c, own_d, own_m, grow, low, was.counted, now_moves, arith);
+        last = λ known is. (
+          place,
+          next,
+          slice_get-get_or after place next (omega (below, long, arith)) ∙ ap Some
+              (get_or-set_same before place next next below),
+          is,
+        );
+      };
+      whole = λ all. omega (total, own_c, own_d, own_m, grow, low, was.counted, now_moves, all, arith);
+      exact = λ all. record {
+        old = k.client;
+        new = d.0;
+        sat = k.sits;
+        sits = d.1;
+        exact = exact_call means seen m e d.3.later.seat pre
+            (omega (total, own_c, own_d, own_m, grow, low, was.counted, now_moves, all, arith))
+            (sees_record seen m.log n was.commit opened k.sees
+            (omega (total, own_c, own_d, own_m, grow, low, was.counted, now_moves, all, arith)));
+      };
+    }
+
+-- so did a line whose client made its call
+pub called_steady : (means : Meanings) (sights : List (Option Known)) (seen : Option Known) (place : ℕ) (c : Command)
+    (before : List Player) (t : Told) (after : List Player) (now : Option Known)
+    → IsCalledAt means sights seen place c before t after now → StaySteady before seen after now
+called_steady means sights seen place c before t after now h was =
+    let gone = went means sights seen place c before h.client h.next h.mid t h.at h.learnt h.may was in
+    subst (λ ps. AreSteady ps now × (IsWhole ps now → IsWhole before seen)) (sym h.left)
+    (subst (λ s. AreSteady (slice_set before place h.next) s × (IsWhole (slice_set before place h.next) s
+    → IsWhole before seen)) (sym h.sees) (gone.steady, gone.whole))
+
+-- The line of a client is exact where all moves are the clients'.
+pub told_exact : (means : Meanings) (sights : List (Option Known)) (seen : Option Known) (place : ℕ) (l : ℕ × Command)
+    (before : List Player) (text : Bytes) (after : List Player) (now : Option Known)
+    (told : IsToldAt means sights seen place l before text after now) → AreSteady before seen → IsWhole after now
+    → IsExactAt means seen told.mid told.next.place
+told_exact means sights seen place l before text after now h was all =
+    (went means sights seen place l.1 before h.client h.next h.mid h.may.t h.at h.learnt h.may.may was).exact
+    (subst (λ s. IsWhole (slice_set before place h.next) s) h.sees (subst (λ ps. IsWhole ps now) h.left all))
+
+-- ---- at the end
+
+-- where there is one record of all clients, all moves are theirs
+pub settled : (means : Meanings) (players : List Player) (seen : Option Known) → AreSteady players seen
+    → (0 < length players → (book : List Entry) × IsRecordOf means players book) → IsWhole players seen
+settled means players None was found = omega arith
+settled means players (Some known) was found =
+    let l = was.last known refl in let p = l.1 in
+    let below = slice_get_within players l.0 p l.2 in
+    let r = found (omega (below, arith)) in let book = r.0 in
+    let at = subst (λ (q : Player). (b : ClientState) × (q.place.client ≡ Some b) × IsPrefix b.seat.mark.log book)
+    (get_or_from_slice_get players l.0 p p l.2)
+    (let i = r.1.each l.0 p below in (i.client, i.sits, i.seen)) in
+    let same : Some (sight_of at.0) ≡ Some known = ap (option_map sight_of) (sym at.1) ∙ l.3 in
+    let is : sight_of at.0 ≡ known = cc same in
+    let first : moves at.0.seat.mark.log ≡ moves known.log = ap (λ (m : Known). moves m.log) is in
+    let bounds : List ℕ = map own_at players in
+    let long : length bounds ≡ length players = length-map players own_at in
+    let all : moves book ≤ suc (sum bounds) =
+    counted_book book bounds r.1.legal.1 r.1.legal.2 (r.1.seats ∙ sym long)
+    (λ i within.
+    let there : i < length players = omega (within, long, arith) in
+    let in_book = r.1.each i p there in
+    let bound : slice_index_or bounds i 0 ≡ own_at (slice_index_or players i p) =
+    get_or-map own_at players i p 0 there in
+    let count : own_at (slice_index_or players i p) ≡ length (own_moves in_book.client.seat.mark) =
+    ap own_count in_book.sits in
+    let own_is : moves (mine (suc i) book) ≡ length (own_moves in_book.client.seat.mark) = ap moves in_book.own in
+    omega (bound, count, own_is, arith)) in
+    let total : sum bounds ≡ sum_by own_at players = sum-map own_at players in
+    omega (moves_grow at.0.seat.mark.log book at.2, first, all, total, arith)
+
+-- so it is where the clients have gathered
+pub settled_all : {M : Type 0} (means : Meanings) (turns slice : List (Turn M)) (seen : Option Known) → slice ≡ turns
+    → (was : AreSteady (players_of turns) seen)
+    → ((count commit : ℕ) → AreSeated count commit (players_of slice) → count ≡ length slice → 0 < length slice
+    → (book : List Entry) × IsRecordOf means (players_of slice) book)
+    → IsWhole (players_of turns) seen
+settled_all means turns slice seen is was gather =
+    let n : ℕ = length (players_of turns) in
+    let many : n ≡ length slice = length-map turns (λ t. player_of t.client) ∙ sym (ap length is) in
+    settled means (players_of turns) seen was (λ some.
+    subst (λ ts. (book : List Entry) × IsRecordOf means (players_of ts) book) is
+    (gather n was.commit (subst (λ ts. AreSeated n was.commit (players_of ts)) (sym is) was.seated) many
+    (omega (some, many, arith))))

@@ -1,0 +1,103 @@
+-- What the group of one thread replies to a client's command, and what of that a line may be told.
+--
+-- The state is the group's: the one after all changes so far. The last id, the tickets and the watches are the client's
+-- own. Nothing else is asked: so a line is answered by a function of what the lines before have done.
+use Rattle.std.specs.Prelude.{◌≡◌, ◌⊎◌, ◌+◌, true, List, [], ◌++◌, Option, Some, None}
+use Rattle.group_history.specs.declared.changes.Change.{Change}
+use Rattle.group_history.specs.declared.mutations.Mutation.{Mutation}
+use Rattle.group_history.specs.declared.refusals.Refusal.{Refusal}
+use Rattle.group_history.specs.Map.{Bytes}
+use Rattle.group_history.specs.Meaning.{Meanings}
+use Rattle.group_history.specs.Mutating.{mutate_reply}
+use Rattle.group_history.specs.Queries.{get_at, has_at, is_empty_at, view_rows}
+use Rattle.group_history.specs.Record.{after}
+use Rattle.group_history.specs.State.{State, last_id, made}
+use Rattle.head_word.specs.Books.{with_change}
+use Rattle.answered.specs.Answered.{is_resource_refusal}
+use Rattle.answered.specs.Changes.{change_made, change_read}
+use Rattle.pull_patch.specs.Grammar.{answer_to}
+use Rattle.push_body.specs.Bodies.{push_text}
+use Rattle.rebase.specs.declared.tickets.Ticket.{Ticket}
+use Rattle.rebase.specs.Asking.{end_bytes_reply}
+use Rattle.rebase.specs.Calls.{Caller, caller_of}
+use Rattle.rebase.specs.Clients.{ClientState}
+use Rattle.rebase.specs.Queries.{asked_at}
+use Rattle.rebase.specs.Watching.{Watched, poll_at}
+use Rattle.client_desk.specs.declared.faults.Fault.{Fault}
+use Rattle.client_desk.specs.declared.faults.Fault.TheVariants.{NoTicket, NoWatch}
+use Rattle.client_desk.specs.declared.outcomes.Outcome.TheVariants.{Done, Faulty, Number, Refused}
+use Rattle.client_desk.specs.Kept.{kept_at}
+use Rattle.client_desk.specs.Places.{PlaceState}
+use Rattle.client_desk.specs.Told.{Told, bytes_told, cookie_told, ended_told, id_told, is_told, pending_told}
+use Rattle.client_desk.specs.Told.{polled_told, rows_told, tells, told, told_alone, value_told}
+use Rattle.script_parser.specs.declared.script.Command.{Command}
+use Rattle.script_parser.specs.declared.script.Command.TheVariants as command
+use Rattle.script_parser.specs.declared.script.Query.{Query}
+use Rattle.script_parser.specs.declared.script.Query.TheVariants as query
+
+-- what is told, and the change of the group that it stands for
+pub record Plain : Type 0 where
+  pub told : Told
+  pub change : Option Change
+
+-- the group is not changed
+abbrev pub looked : Told → Plain
+looked t = record { told = t; change = None }
+
+-- by what is kept under a number, or the fault where nothing is
+abbrev pub if_kept : {X : Type 0} → Option X → Fault → (X → Plain) → Plain
+if_kept (Some x) none plain = plain x
+if_kept None none plain = looked (told_alone (Faulty none))
+
+-- In a group whose mutators mean this and whose state this is, to this caller.
+module _ (means : Meanings) (s : State) (by : Caller) where
+  abbrev pub query_told : Query → Told
+  query_told (query.Get key) = value_told (get_at means s key)
+  query_told (query.Has key) = is_told (has_at means s key)
+  query_told (query.Scan scan) = rows_told (view_rows means s scan)
+  query_told query.Empty = is_told (is_empty_at means s)
+  query_told query.Closed = is_told s.closed
+  query_told query.Pending = pending_told s.pending
+  query_told query.Cookie = cookie_told s.cookie
+  query_told query.Push = bytes_told (push_text by.identity s.pending)
+
+  -- a mutation: it is told its id, or the refusal
+  abbrev pub mutated : Mutation → Plain
+  mutated x = record {
+    told = tells id_told (mutate_reply means s by.last x);
+    change = change_made x (mutate_reply means s by.last x);
+  }
+
+  -- the end of the pull of a ticket, with the bytes of a response
+  abbrev pub ended : Ticket → Bytes → Plain
+  ended kept body = record {
+    told = tells ended_told (end_bytes_reply s kept.cookie.text body);
+    change = change_read kept.cookie (answer_to body) (end_bytes_reply s kept.cookie.text body);
+  }
+
+  -- any command, by the tickets and the watches that are kept
+  abbrev pub plain : List (Option Ticket) → List (Option Watched) → Command → Plain
+  plain tickets watches (command.Query q) = looked (query_told q)
+  plain tickets watches (command.Begin n) = looked (told (Number n) (asked_at by.identity s).body)
+  plain tickets watches (command.End n body) = if_kept (kept_at tickets n) NoTicket (λ kept. ended kept body)
+  plain tickets watches (command.Mutate m) = mutated (made by.client (by.last + 1) m.mutator m.args m.time)
+  plain tickets watches command.Refresh = looked (id_told (last_id s by.client))
+  plain tickets watches (command.Learn other) = looked (told_alone Done)
+  plain tickets watches (command.Watch n scan) = looked (told_alone (Number n))
+  plain tickets watches (command.Poll n) = if_kept (kept_at watches n) NoWatch
+      (λ watch. looked (polled_told (poll_at means watch s)))
+
+-- a refusal for want of something: of memory, of a slot or of a stamp
+abbrev pub IsWant : Told → Type 0
+IsWant t = (e : Refusal) × (is_resource_refusal e ≡ true) × (t ≡ told_alone (Refused e))
+
+-- This is told, and the record gains the change; or it is refused for want of something, and the record stays.
+abbrev pub IsDone : Plain → Told → List Change → List Change → Type 0
+IsDone is t old new = ((t ≡ is.told) × (new ≡ old ++ with_change is.change [])) ⊎ (IsWant t × (new ≡ old))
+
+-- So is the command of the client that sits at a place, where the group's record is this.
+pub record IsPlain (means : Meanings) (c : Command) (place : PlaceState) (t : Told)
+    (old new : List Change) : Type 0 where
+  pub client : ClientState
+  pub sits : place.client ≡ Some client
+  pub done : IsDone (plain means (after old) (caller_of client) place.tickets place.watches c) t old new
