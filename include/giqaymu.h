@@ -20,9 +20,15 @@
  *
  * Of two refusals. Where a call has several, the first of these is returned: GIQ_NO_PLACE; what its bytes and numbers
  * say, one parameter after the other, a response not among them: GIQ_NOT_UTF8, GIQ_BAD_UUID, GIQ_NOT_JSON,
- * GIQ_NOT_WHOLE, GIQ_OUT_OF_RANGE; GIQ_ASKS or GIQ_NOT_ASKED; GIQ_IN_USE or GIQ_NO_CLIENT; GIQ_NO_TICKET or
- * GIQ_NO_WATCH; and then what the group answers, which reads a response (docs/RECORD.md has its order). GIQ_NO_MEMORY
- * may come in the place of any of them but the first.
+ * GIQ_NOT_WHOLE, GIQ_OUT_OF_RANGE; GIQ_ASKS or GIQ_NOT_ASKED; GIQ_READS, GIQ_NOT_READ, GIQ_IN_USE or GIQ_NO_CLIENT;
+ * GIQ_NO_TICKET or GIQ_NO_WATCH; and then what the group answers, which reads a response (docs/RECORD.md has its
+ * order). GIQ_NO_MEMORY may come in the place of any of them but the first.
+ *
+ * Readings. From giq_begin_read to giq_end_read the queries of a place are answered as of one moment, which is a moment
+ * of giq_begin_read: giq_get, giq_has, giq_scan, giq_pulled_get, giq_pulled_scan, giq_pending, giq_cookie, giq_closed,
+ * giq_push and giq_moment. Meanwhile tickets and watches may be given up, the client may leave and the place be closed,
+ * which ends the reading; each other call that needs a client is refused with GIQ_READS. As long as a reading is open,
+ * the slots that other clients let go are kept from use, so a long one can make a busy group full.
  *
  * Mutators. A group runs its rules itself, and without own_mutators those of scripts. With own_mutators each name that
  * has no rule is a mutator of the program's own: a mutation of one, and an end of a pull where such a mutation stays
@@ -78,7 +84,7 @@ typedef struct giq_bytes {
 /* What a call tells beside the number that it returns. */
 typedef struct giq_answer {
     giq_bytes bytes; /* of the library, good until the next call of the place */
-    uint64_t number; /* an id, or the number of a ticket or of a watch; else 0 */
+    uint64_t number; /* an id, the number of a ticket, of a watch or of a moment, or a reason; else 0 */
     uint32_t code;   /* of GIQ_REFUSED the mutator's; of GIQ_VERSION_NOT_SUPPORTED an enum giq_version_kind; else 0 */
 } giq_answer;
 
@@ -155,13 +161,17 @@ enum giq_number {
     GIQ_NO_PLACE = -110,
     /* no change of the place asks for a run: mutate, or end a pull */
     GIQ_NOT_ASKED = -111,
+    /* a reading of the place is open: end it first */
+    GIQ_READS = -112,
+    /* no reading of the place is open: begin one */
+    GIQ_NOT_READ = -113,
     /* the library is of another version than what calls it: build both of one version */
     GIQ_BAD_VERSION = -201
     /* tools/refusals: end */
 };
 
 /* The version of this header: major * 10000 + minor * 100 + patch. */
-#define GIQ_VERSION 10000
+#define GIQ_VERSION 10100
 
 /* This bit of what giq_version answers says that the library was built without its proof. */
 #define GIQ_UNPROVED 0x80000000
@@ -204,7 +214,15 @@ enum giq_what {
     GIQ_CALL_DRAFT_PUT = 21,
     GIQ_CALL_DRAFT_DEL = 22,
     GIQ_CALL_RAN = 23,
-    GIQ_CALL_GIVE_UP = 24
+    GIQ_CALL_GIVE_UP = 24,
+    GIQ_CALL_SLOTS = 25,
+    GIQ_CALL_BEGIN_READ = 26,
+    GIQ_CALL_END_READ = 27,
+    GIQ_CALL_MOMENT = 28,
+    GIQ_CALL_PULLED_GET = 29,
+    GIQ_CALL_PULLED_SCAN = 30,
+    GIQ_CALL_UNWATCH = 31,
+    GIQ_CALL_ASKED_RUN = 32
 };
 
 #define GIQ_NO_LIMIT UINT64_MAX
@@ -360,6 +378,10 @@ static inline const char *giq_message(int32_t number) {
         return "the place is closed: open a group";
     case GIQ_NOT_ASKED:
         return "no change of the place asks for a run: mutate, or end a pull";
+    case GIQ_READS:
+        return "a reading of the place is open: end it first";
+    case GIQ_NOT_READ:
+        return "no reading of the place is open: begin one";
     case GIQ_BAD_VERSION:
         return "the library is of another version than what calls it: build both of one version";
     /* tools/refusals: end */
@@ -412,7 +434,7 @@ static inline int32_t giq_sit(giq_place *place, giq_bytes client, giq_answer *an
     return giq_ask(place, GIQ_CALL_SIT, 0, 0, client, giq_nothing(), answer);
 }
 
-/* The client leaves; its tickets and watches are given up, and what it made stays pending. */
+/* The client leaves; its tickets, its watches and a reading are given up, and what it made stays pending. */
 static inline int32_t giq_leave(giq_place *place, giq_answer *answer) {
     return giq_ask(place, GIQ_CALL_LEAVE, 0, 0, giq_nothing(), giq_nothing(), answer);
 }
@@ -422,8 +444,8 @@ static inline int32_t giq_refresh(giq_place *place, giq_answer *answer) {
     return giq_ask(place, GIQ_CALL_REFRESH, 0, 0, giq_nothing(), giq_nothing(), answer);
 }
 
-/* ---- queries: each is answered as of one moment of the call. Refused: GIQ_BUSY, GIQ_GONE; those that are given bytes:
- * GIQ_NOT_UTF8 */
+/* ---- queries: each but giq_slots is answered as of one moment of the call, or of the reading that is open. Refused:
+ * GIQ_BUSY, GIQ_GONE, and giq_slots and giq_moment with neither; those that are given bytes: GIQ_NOT_UTF8 */
 
 /* The value at the key, a compact JSON text; GIQ_NONE where there is none. */
 static inline int32_t giq_get(giq_place *place, giq_bytes key, giq_answer *answer) {
@@ -457,8 +479,45 @@ static inline int32_t giq_closed(giq_place *place, giq_answer *answer) {
     return giq_ask(place, GIQ_CALL_CLOSED, 0, 0, giq_nothing(), giq_nothing(), answer);
 }
 
-/* Watches the rows of a range: answer->number names the watch at this place, until the client leaves. Nothing is read.
+/* The value at the key in what the server last sent, without what is pending, as giq_get has it. */
+static inline int32_t giq_pulled_get(giq_place *place, giq_bytes key, giq_answer *answer) {
+    return giq_ask(place, GIQ_CALL_PULLED_GET, 0, 0, key, giq_nothing(), answer);
+}
+
+/* The rows of the range in what the server last sent, without what is pending, as giq_scan has them.
  * Refused: as giq_scan. */
+static inline int32_t giq_pulled_scan(giq_place *place, giq_range range, giq_answer *answer) {
+    return giq_ask(place, GIQ_CALL_PULLED_SCAN, range.kind, range.limit, range.prefix, range.start, answer);
+}
+
+/* The number of the group's moment: answer->number. The same number, also at another place of the group, says the same
+ * map, pending mutations and cookie; a later state has a greater number. It is one load, and takes no memory: a program
+ * that asks before it reads pays little where nothing is new. */
+static inline int32_t giq_moment(giq_place *place, giq_answer *answer) {
+    return giq_ask(place, GIQ_CALL_MOMENT, 0, 0, giq_nothing(), giq_nothing(), answer);
+}
+
+/* How many slots are free, a JSON array [ordinary,all,retired]: those that a change may take, those that a pull may
+ * take which leaves nothing pending, and those that were let go and not given since, of which a change takes each that
+ * no older reader holds. Each slot is looked at once, one after the other, so that others may take and let go
+ * meanwhile; it takes time for each slot of the group. */
+static inline int32_t giq_slots(giq_place *place, giq_answer *answer) {
+    return giq_ask(place, GIQ_CALL_SLOTS, 0, 0, giq_nothing(), giq_nothing(), answer);
+}
+
+/* Begins a reading: until giq_end_read this place's queries are answered as of one moment. End it soon: see "Readings".
+ * Refused: GIQ_READS where one is open, GIQ_BUSY, GIQ_GONE. It takes no memory. */
+static inline int32_t giq_begin_read(giq_place *place, giq_answer *answer) {
+    return giq_ask(place, GIQ_CALL_BEGIN_READ, 0, 0, giq_nothing(), giq_nothing(), answer);
+}
+
+/* Ends the reading. Refused: GIQ_NOT_READ where none is open, also where nobody sits. */
+static inline int32_t giq_end_read(giq_place *place, giq_answer *answer) {
+    return giq_ask(place, GIQ_CALL_END_READ, 0, 0, giq_nothing(), giq_nothing(), answer);
+}
+
+/* Watches the rows of a range: answer->number names the watch at this place, until it is given up or the client leaves.
+ * Nothing is read. Refused: as giq_scan. */
 static inline int32_t giq_watch(giq_place *place, giq_range range, giq_answer *answer) {
     return giq_ask(place, GIQ_CALL_WATCH, range.kind, range.limit, range.prefix, range.start, answer);
 }
@@ -468,6 +527,11 @@ static inline int32_t giq_watch(giq_place *place, giq_range range, giq_answer *a
  * Refused: GIQ_NO_WATCH; then, and in each other refusal, nothing counts as told. */
 static inline int32_t giq_poll(giq_place *place, uint32_t watch, giq_answer *answer) {
     return giq_ask(place, GIQ_CALL_POLL, watch, 0, giq_nothing(), giq_nothing(), answer);
+}
+
+/* Gives a watch up, and the rows that it keeps. Its number may be given again. Refused: GIQ_NO_WATCH. */
+static inline int32_t giq_unwatch(giq_place *place, uint32_t watch, giq_answer *answer) {
+    return giq_ask(place, GIQ_CALL_UNWATCH, watch, 0, giq_nothing(), giq_nothing(), answer);
 }
 
 /* ---- changes and requests */
@@ -484,6 +548,13 @@ static inline int32_t giq_mutate(giq_place *place, giq_bytes name, giq_bytes arg
  * GIQ_GONE. The answer of the push endpoint is not read by the library. */
 static inline int32_t giq_push(giq_place *place, giq_answer *answer) {
     return giq_ask(place, GIQ_CALL_PUSH, 0, 0, giq_nothing(), giq_nothing(), answer);
+}
+
+/* The body of a push as giq_push has it, but for the oldest `skip` pending mutations: with 0 it is giq_push. Where no
+ * more are pending it has none. What is pending may be other by the time of the call than giq_pending told: look which
+ * mutation the body begins with, or ask for both in one reading. */
+static inline int32_t giq_push_from(giq_place *place, uint32_t skip, giq_answer *answer) {
+    return giq_ask(place, GIQ_CALL_PUSH, skip, 0, giq_nothing(), giq_nothing(), answer);
 }
 
 /* Begins a pull: the body of its request (version 1), and answer->number names its ticket at this place. Many pulls
@@ -519,6 +590,13 @@ static inline int32_t giq_asked_name(giq_place *place, giq_answer *answer) {
 /* Its arguments, a compact JSON text. Copy them before the run's map is read. */
 static inline int32_t giq_asked_args(giq_place *place, giq_answer *answer) {
     return giq_ask(place, GIQ_CALL_ASKED_ARGS, 0, 0, giq_nothing(), giq_nothing(), answer);
+}
+
+/* All of the run in one: its mutation as a push lists it, a compact JSON text with "args", "clientID", "id", "name" and
+ * "timestamp"; answer->number is the reason, an enum giq_reason. Client, id and time are told for the program's own
+ * logs: what a run does must not depend on them. Copy the bytes before the run's map is read. */
+static inline int32_t giq_asked_run(giq_place *place, giq_answer *answer) {
+    return giq_ask(place, GIQ_CALL_ASKED_RUN, 0, 0, giq_nothing(), giq_nothing(), answer);
 }
 
 /* The value at the key in the run's map, a compact JSON text; GIQ_NONE where there is none. Refused: GIQ_NOT_UTF8,

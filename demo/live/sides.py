@@ -18,41 +18,6 @@ OPTIONS = RequestOptions(min_delay=0.05, max_delay=2.0, timeout=5.0)
 PREFIX = "todo/"
 
 
-class Pulled:
-    """The map that the server has told the group: it is made of the responses, beside the library's own.
-
-    Which of them the library has taken is seen by the cookie of the next request.
-    """
-
-    def __init__(self) -> None:
-        self._maps: dict[str, dict[str, Json]] = {"null": {}}
-        self.cookie: Json = None
-        self.rows: dict[str, Json] = {}
-
-    def take(self, request: bytes, response: bytes) -> None:
-        """A response to a pull, and its request."""
-        before = json.dumps(json.loads(request)["cookie"])
-        base = self._maps.get(before, {})
-        try:
-            answer = json.loads(response)
-            self.cookie, self.rows = answer["cookie"], _patched(base, answer["patch"])
-        except (ValueError, KeyError, TypeError):
-            return  # the library refuses it too
-        self._maps = {before: base, json.dumps(self.cookie): self.rows}
-
-
-def _patched(rows: dict[str, Json], patch: list[Json]) -> dict[str, Json]:
-    rows = dict(rows)
-    for op in patch:
-        if op["op"] == "clear":
-            rows.clear()
-        elif op["op"] == "put":
-            rows[op["key"]] = op["value"]
-        else:
-            rows.pop(op["key"], None)
-    return rows
-
-
 class Side:
     """The group. Any thread calls it."""
 
@@ -60,8 +25,9 @@ class Side:
         """`changed` is called whenever the page may show something else."""
         self.name, self.is_offline = name, False
         self._post = Http(OPTIONS)
-        self._lock = threading.Lock()  # of `_pulled` and `_counts`
-        self._pulled, self._counts = Pulled(), Counter[str]()
+        self._lock = threading.Lock()  # of `_counts`
+        self._counts = Counter[str]()
+        self._cookie: Json = None
         self.group = Replicache(
             push_url=f"{server}/push",
             pull_url=f"{server}/pull",
@@ -99,8 +65,7 @@ class Side:
             self._count("lost")
             raise
         if what == "pull":
-            with self._lock:
-                self._pulled.take(body, reply.body)
+            self._cookie = _cookie_of(reply.body, self._cookie)
         return reply
 
     def switch(self, is_offline: bool) -> None:
@@ -122,35 +87,20 @@ class Side:
     def state(self) -> Json:
         """What the page shows."""
         with self._lock:
-            pulled, cookie, counts = self._pulled.rows, self._pulled.cookie, dict(self._counts)
+            counts = dict(self._counts)
         pending = self.group.experimental_pending_mutations()
-        view = dict(self.group.query(lambda tx: tx.scan()))
+        view, pulled = self.group.query(lambda tx: (dict(tx.scan()), dict(tx.pulled_scan())))
         return {
             "name": self.name,
             "offline": self.is_offline,
             "online": self.group.online,
-            "clients": {letter: self._items(client, pulled) for letter, client in self.clients.items()},
+            "clients": {letter: _items(client) for letter, client in self.clients.items()},
             "gone": [_text(pulled[key]) for key in pulled if key.startswith(PREFIX) and key not in view],
-            "pulled": {"cookie": cookie, "keys": len(pulled)},
+            "pulled": {"cookie": self._cookie, "keys": len(pulled)},
             "pending": [self._mutation(one, {**pulled, **view}) for one in pending],
             "view": len(view),
             "counts": counts,
         }
-
-    def _items(self, client: Replicache, pulled: dict[str, Json]) -> list[Json]:
-        """The list as the client sees it; what the server has told otherwise, or not at all, is pending."""
-        rows = client.query(lambda tx: tx.scan(PREFIX))
-        items = [
-            {
-                "id": row.key[len(PREFIX) :],
-                "text": _text(row.value),
-                "done": _field(row.value, "done") is True,
-                "at": _field(row.value, "at"),
-                "pending": pulled.get(row.key) != row.value,
-            }
-            for row in rows
-        ]
-        return sorted(items, key=lambda item: (item["at"] if isinstance(item["at"], int) else 0, item["id"]))
 
     def _mutation(self, one: PendingMutation, rows: dict[str, Json]) -> Json:
         """A pending mutation, and what it is about."""
@@ -161,6 +111,30 @@ class Side:
         """Ends the group."""
         self.group.close()
         self._post.close()
+
+
+def _items(client: Replicache) -> list[Json]:
+    """The list as the client sees it; what the server has told otherwise, or not at all, is pending."""
+    rows, pulled = client.query(lambda tx: (tx.scan(PREFIX), dict(tx.pulled_scan(PREFIX))))
+    items = [
+        {
+            "id": row.key[len(PREFIX) :],
+            "text": _text(row.value),
+            "done": _field(row.value, "done") is True,
+            "at": _field(row.value, "at"),
+            "pending": pulled.get(row.key) != row.value,
+        }
+        for row in rows
+    ]
+    return sorted(items, key=lambda item: (item["at"] if isinstance(item["at"], int) else 0, item["id"]))
+
+
+def _cookie_of(response: bytes, before: Json) -> Json:
+    """The cookie of a response to a pull, or the one before where it has none."""
+    try:
+        return json.loads(response)["cookie"]
+    except (ValueError, KeyError, TypeError):
+        return before
 
 
 def _field(value: Json, name: str) -> Json:

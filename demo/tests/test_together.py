@@ -13,9 +13,6 @@ from typing import Any
 import todo
 from children import ServerChild
 from giqaymu import Replicache, RequestOptions, UpdateNeeded
-from live.sides import Pulled
-
-Json = Any
 
 WAIT = 20.0
 QUICK = RequestOptions(min_delay=0.01, max_delay=0.1, timeout=5.0)
@@ -87,27 +84,6 @@ class Together(unittest.TestCase):
         told: list[UpdateNeeded] = []
         self.client(schema="2", on_update_needed=told.append)
         self.assertTrue(until(lambda: told == [UpdateNeeded("VersionNotSupported", "schema")]))
-
-
-class Maps(unittest.TestCase):
-    """The map that the page makes of responses."""
-
-    def test_a_response_that_was_refused_is_dropped(self) -> None:
-        pulled = Pulled()
-
-        def take(before: str, cookie: int, *patch: Json) -> dict[str, Json]:
-            response = f'{{"cookie": {cookie}, "patch": {list(patch)}}}'.replace("'", '"')
-            pulled.take(f'{{"cookie": {before}}}'.encode(), response.encode())
-            return pulled.rows
-
-        put = {"op": "put", "key": "a", "value": 1}
-        self.assertEqual(take("null", 1, {"op": "clear"}, put), {"a": 1})
-        self.assertEqual(take("null", 2, {"op": "clear"}), {})
-        self.assertEqual(take("2", 3, {**put, "value": 2}), {"a": 2})
-        self.assertEqual(take("3", 4, {"op": "del", "key": "a"}), {})
-        self.assertEqual(take("3", 5), {"a": 2})
-        pulled.take(b'{"cookie": 5}', b'{"cook')
-        self.assertEqual((pulled.cookie, pulled.rows), (5, {"a": 2}))
 
 
 if __name__ == "__main__":

@@ -44,6 +44,11 @@ static uint64_t state, refused;
 /* The place whose change asked for a run last. */
 static giq_place *asking;
 
+/* Of each place whether a reading is open there, its moment, and a hash of its rows; and the last moment that the group
+ * told. */
+static int reads[PLACES];
+static uint64_t read_at[PLACES], read_rows[PLACES], latest;
+
 /* A number that looks random, below the limit. */
 static uint64_t below(uint64_t limit) {
     state = state * 6364136223846793005 + 1442695040888963407;
@@ -103,7 +108,7 @@ static void check(int32_t returned, const giq_answer *answer) {
     static volatile uint8_t read;
     size_t i;
     const int has_code = returned == GIQ_REFUSED || returned == GIQ_VERSION_NOT_SUPPORTED;
-    if (returned > GIQ_ASKED || (returned < GIQ_CLOSED && returned > GIQ_NOT_UTF8) || returned < GIQ_NOT_ASKED) {
+    if (returned > GIQ_ASKED || (returned < GIQ_CLOSED && returned > GIQ_NOT_UTF8) || returned < GIQ_NOT_READ) {
         fail("returned", returned);
     }
     if (returned == GIQ_NO_MEMORY && refused == 0) fail("no memory", returned);
@@ -111,6 +116,61 @@ static void check(int32_t returned, const giq_answer *answer) {
     if (answer->code != 0 && !has_code) fail("code", (long)answer->code);
     for (i = 0; i < answer->bytes.len; i++) read = answer->bytes.at[i];
     (void)read;
+}
+
+/* A moment is that of the reading which is open there, or no earlier one than the group told before. */
+static void check_moment(int at, uint64_t moment) {
+    if (reads[at] ? moment != read_at[at] : moment < latest) fail("moment", (long)moment);
+    if (!reads[at]) latest = moment;
+}
+
+/* A hash of all rows, those that the server last sent too; 0 where they were refused. */
+static uint64_t rows_of(giq_place *place) {
+    giq_answer answer;
+    uint64_t hash = 14695981039346656037u;
+    int pulled;
+    size_t i;
+    for (pulled = 0; pulled < 2; pulled++) {
+        const giq_range all = giq_rows(giq_nothing());
+        if ((pulled ? giq_pulled_scan(place, all, &answer) : giq_scan(place, all, &answer)) != GIQ_OK) return 0;
+        for (i = 0; i < answer.bytes.len; i++) hash = (hash ^ answer.bytes.at[i]) * 1099511628211u;
+    }
+    return hash;
+}
+
+/* A reading has begun: only where none was open, and its moment is the group's last one. */
+static void check_reading(giq_place *place, int at) {
+    giq_answer answer;
+    if (reads[at]) fail("two readings", at);
+    if (giq_moment(place, &answer) != GIQ_OK || answer.number < latest) fail("moment", (long)answer.number);
+    reads[at] = 1;
+    read_at[at] = latest = answer.number;
+    read_rows[at] = rows_of(place);
+}
+
+/* A reading that is to be ended has the rows that it had when it began. */
+static void check_rows(giq_place *place, int at) {
+    const uint64_t rows = rows_of(place);
+    if (refused == 0 && (rows == 0 || read_rows[at] == 0)) fail("no rows", at);
+    if (rows != 0 && read_rows[at] != 0 && rows != read_rows[at]) fail("other rows", at);
+}
+
+/* These calls take no memory. */
+static int takes_none(uint32_t what) {
+    return what == GIQ_CALL_BEGIN_READ || what == GIQ_CALL_END_READ || what == GIQ_CALL_MOMENT ||
+           what == GIQ_CALL_UNWATCH;
+}
+
+/* What a call says of readings and moments. */
+static void check_reads(giq_place *place, int at, uint32_t what, int32_t returned, const giq_answer *answer) {
+    if (reads[at] && returned >= 0 && (what == GIQ_CALL_MUTATE || what == GIQ_CALL_POLL)) fail("reads", (long)what);
+    if (returned == GIQ_NO_MEMORY && takes_none(what)) fail("memory", (long)what);
+    if (returned == GIQ_READS && !reads[at]) fail("no reading", (long)what);
+    if (returned == GIQ_NOT_READ && reads[at]) fail("a reading", (long)what);
+    if (returned != GIQ_OK) return;
+    if (what == GIQ_CALL_MOMENT) check_moment(at, answer->number);
+    if (what == GIQ_CALL_BEGIN_READ) check_reading(place, at);
+    if (what == GIQ_CALL_END_READ || what == GIQ_CALL_LEAVE) reads[at] = 0;
 }
 
 /* Of rules by which a group was opened or not it is told what is wrong where they were refused, and only there. */
@@ -131,6 +191,8 @@ static void open_any(giq_place *places) {
     int32_t returned;
     int i;
     for (i = 0; i < PLACES; i++) giq_close(&places[i]);
+    memset(reads, 0, sizeof reads);
+    latest = 0;
     opening.group = given(rooms[0], IDS, RESPONSES);
     opening.profile = given(rooms[1], 0, NAMES);
     opening.schema = given(rooms[2], 0, NAMES);
@@ -145,26 +207,41 @@ static void open_any(giq_place *places) {
     }
 }
 
-/* Makes a call; whether it was done. */
-static int call_any(giq_place *place) {
+/* Closes one of the places, also where a reading is open or a run is asked for. */
+static void close_any(giq_place *places) {
+    const int at = (int)below(PLACES);
+    giq_close(&places[at]);
+    reads[at] = 0;
+}
+
+/* Makes a call at one of the places; whether it was done. */
+static int call_any(giq_place *places) {
     static uint8_t rooms[2][ROOM];
-    uint32_t what = below(50) == 0 ? (uint32_t)number() : (uint32_t)below(GIQ_CALL_GIVE_UP + 2);
+    const int at = (int)below(PLACES);
+    giq_place *place = &places[at];
+    uint32_t what = below(50) == 0 ? (uint32_t)number() : (uint32_t)below(GIQ_CALL_ASKED_RUN + 2);
     uint32_t m = (uint32_t)number();
     giq_answer answer;
     int32_t returned;
-    if (what > GIQ_CALL_POLL && place != asking && below(10) != 0) what = (uint32_t)below(GIQ_CALL_POLL + 1);
+    if (what > GIQ_CALL_POLL && what < GIQ_CALL_SLOTS && place != asking && below(10) != 0) {
+        what = (uint32_t)below(GIQ_CALL_POLL + 1);
+    }
     if (what <= GIQ_CALL_LEAVE && below(10) != 0) what = GIQ_CALL_MUTATE;
+    if (reads[at] && below(6) == 0) what = GIQ_CALL_END_READ;
     if (place == asking && below(3) == 0) {
         what = GIQ_CALL_RAN;
         m = (uint32_t)below(3);
     }
+    if (reads[at] && what == GIQ_CALL_END_READ) check_rows(place, at);
     memset(&answer, 255, sizeof answer);
     returned = giq_ask(place, (enum giq_what)what, m, number(), fitting(rooms[0], what), given(rooms[1], ARGS, IDS),
                        &answer);
     check(returned, &answer);
+    check_reads(place, at, what, returned, &answer);
     if (returned == GIQ_ASKED) {
         asking = place;
-    } else if (place == asking && (what >= GIQ_CALL_RAN || returned == GIQ_NOT_ASKED)) {
+    } else if (place == asking && returned != GIQ_ASKS && (what == GIQ_CALL_RAN || what == GIQ_CALL_GIVE_UP ||
+               returned == GIQ_NOT_ASKED)) {
         asking = NULL;
     }
     return returned >= 0;
@@ -181,8 +258,8 @@ int main(int argc, char **argv) {
     memset(places, 0, sizeof places);
     for (i = 0; i < calls; i++) {
         if (i % 200 == 0) open_any(places);
-        done += call_any(&places[below(PLACES)]);
-        if (below(500) == 0) giq_close(&places[below(PLACES)]);
+        done += call_any(places);
+        if (below(500) == 0) close_any(places);
     }
     for (i = 0; i < PLACES; i++) giq_close(&places[i]);
     printf("%ld calls, %ld done\n", calls, done);

@@ -1,8 +1,8 @@
-/* What a get takes through the edge: cost KEYS.
+/* What a get takes through the edge, and what it takes to learn that nothing is new: cost KEYS.
  *
  * It does what the job `get` of bench/group/program does inside, with the same keys and values: random gets in a
  * group of so many keys and 1,000 counters, the least time of one in several turns, of the processor. It prints what
- * that job prints. */
+ * that job prints; and the same of gets in one reading, of a moment, and of a poll of 100 rows, which didn't change. */
 #define _POSIX_C_SOURCE 200809L
 #include "giqaymu.h"
 
@@ -11,7 +11,7 @@
 #include <stdlib.h>
 #include <time.h>
 
-enum { COUNTERS = 1000, GETS = 300000, TURNS = 7, KEY = 13, OPERATION = 120 };
+enum { COUNTERS = 1000, GETS = 300000, POLLS = 3000, TURNS = 7, KEY = 13, OPERATION = 120 };
 
 static void stop(const char *what) {
     fprintf(stderr, "%s\n", what);
@@ -67,7 +67,7 @@ static double now(void) {
 }
 
 /* The nanoseconds of one get. */
-static double turn(giq_place *place, const uint8_t *texts) {
+static double gets_each(giq_place *place, const uint8_t *texts) {
     giq_answer answer;
     giq_bytes key;
     double start = now();
@@ -80,14 +80,63 @@ static double turn(giq_place *place, const uint8_t *texts) {
     return (now() - start) / GETS;
 }
 
+/* Of one get of a reading. */
+static double gets_in_one(giq_place *place, const uint8_t *texts) {
+    giq_answer answer;
+    double taken;
+    done(giq_begin_read(place, &answer));
+    taken = gets_each(place, texts);
+    done(giq_end_read(place, &answer));
+    return taken;
+}
+
+/* Of one moment. */
+static double moments(giq_place *place, const uint8_t *texts) {
+    giq_answer answer;
+    double start = now();
+    size_t i;
+    (void)texts;
+    for (i = 0; i < GETS; i++) done(giq_moment(place, &answer));
+    return (now() - start) / GETS;
+}
+
+/* Of one poll of the rows of a watch, which are as they were. */
+static double polls(giq_place *place, const uint8_t *texts) {
+    giq_answer answer;
+    uint32_t watch;
+    double start;
+    size_t i;
+    (void)texts;
+    done(giq_watch(place, giq_rows(giq_text("item/000000")), &answer));
+    watch = (uint32_t)answer.number;
+    done(giq_poll(place, watch, &answer));
+    start = now();
+    for (i = 0; i < POLLS; i++) {
+        if (giq_poll(place, watch, &answer) != GIQ_NONE) stop("polled");
+    }
+    start = (now() - start) / POLLS;
+    done(giq_unwatch(place, watch, &answer));
+    return start;
+}
+
+/* Prints the least of several turns. */
+static void tell(const char *name, double (*turn)(giq_place *, const uint8_t *), giq_place *place, const uint8_t *texts,
+                 uint64_t keys) {
+    double best = turn(place, texts), one;
+    int i;
+    for (i = 1; i < TURNS; i++) {
+        one = turn(place, texts);
+        if (one < best) best = one;
+    }
+    printf("%s\tedge\t%" PRIu64 "\t0\t%.0f\tns\n", name, keys, best);
+}
+
 int main(int argc, char **argv) {
     uint64_t keys = argc == 2 ? strtoull(argv[1], NULL, 10) : 0;
     giq_opening opening;
     giq_place place;
     giq_answer answer;
     uint8_t *texts;
-    double best, one;
-    int i;
 
     if (keys == 0 || keys > 10000) stop("cost KEYS, 1 to 10000");
     opening.group = giq_text("00000000-0000-4000-8000-000000000001");
@@ -100,12 +149,10 @@ int main(int argc, char **argv) {
     done(giq_sit(&place, giq_text("00000000-0000-4000-8000-000000000000"), &answer));
     fill(&place, keys);
     texts = asked(keys);
-    best = turn(&place, texts);
-    for (i = 1; i < TURNS; i++) {
-        one = turn(&place, texts);
-        if (one < best) best = one;
-    }
-    printf("get\tedge\t%" PRIu64 "\t0\t%.0f\tns\n", keys, best);
+    tell("get", gets_each, &place, texts, keys);
+    tell("get in a reading", gets_in_one, &place, texts, keys);
+    tell("moment", moments, &place, texts, keys);
+    tell("poll of 100 rows", polls, &place, texts, keys);
     free(texts);
     giq_close(&place);
     return EXIT_SUCCESS;

@@ -1,5 +1,5 @@
-/* Mutators of the program's own: each step of a run, a rebase, others that are first, changes that are given up, and the
- * numbers of tickets. */
+/* Mutators of the program's own: each step of a run, a rebase, others that are first, changes that are given up, and
+ * the numbers of tickets. */
 #include "giqaymu.h"
 
 #include <stdio.h>
@@ -78,6 +78,7 @@ static void open_group(giq_place *places, giq_bytes rules) {
 /* Each call of a run, and what is refused meanwhile. */
 static void steps(giq_place *place) {
     IS(giq_asked_name(place, &answer), GIQ_NOT_ASKED);
+    IS(giq_asked_run(place, &answer), GIQ_NOT_ASKED);
     IS(giq_draft_put(place, giq_text("a"), giq_text("1"), &answer), GIQ_NOT_ASKED);
     IS(giq_ran(place, GIQ_RAN, 0, &answer), GIQ_NOT_ASKED);
     IS(giq_give_up(place, &answer), GIQ_NOT_ASKED);
@@ -87,7 +88,15 @@ static void steps(giq_place *place) {
     NUMBERS(GIQ_INITIAL);
     IS(giq_asked_args(place, &answer), GIQ_OK);
     TELLS("[1]");
+    IS(giq_asked_run(place, &answer), GIQ_OK);
+    TELLS("{\"args\":[1],\"clientID\":\"" ANNA "\",\"id\":1,\"name\":\"mark\",\"timestamp\":5}");
+    NUMBERS(GIQ_INITIAL);
     IS(giq_get(place, giq_text("a"), &answer), GIQ_ASKS);
+    IS(giq_pulled_get(place, giq_text("a"), &answer), GIQ_ASKS);
+    IS(giq_begin_read(place, &answer), GIQ_ASKS);
+    IS(giq_end_read(place, &answer), GIQ_ASKS);
+    IS(giq_moment(place, &answer), GIQ_ASKS);
+    IS(giq_unwatch(place, 0, &answer), GIQ_ASKS);
     IS(mutate(place, "mark", "1"), GIQ_ASKS);
     IS(giq_sit(place, giq_text(BERT), &answer), GIQ_ASKS);
     IS(giq_begin_pull(place, &answer), GIQ_ASKS);
@@ -150,6 +159,9 @@ static void rebase(giq_place *anna, giq_place *bert) {
     IS(giq_asked_name(anna, &answer), GIQ_OK);
     TELLS("m");
     NUMBERS(GIQ_REBASE);
+    IS(giq_asked_run(anna, &answer), GIQ_OK);
+    TELLS("{\"args\":2,\"clientID\":\"" BERT "\",\"id\":1,\"name\":\"m\",\"timestamp\":5}");
+    NUMBERS(GIQ_REBASE);
     IS(giq_draft_scan(anna, giq_rows(giq_nothing()), &answer), GIQ_OK);
     TELLS("[[\"n\",[0]]]");
     IS(run(bert, mutate(bert, "k", "4")), GIQ_OK);
@@ -166,6 +178,8 @@ static void rebase(giq_place *anna, giq_place *bert) {
     IS(giq_forget_ticket(anna, ticket, &answer), GIQ_OK);
     IS(giq_scan(bert, giq_rows(giq_nothing()), &answer), GIQ_OK);
     TELLS("[[\"k\",[4]],[\"m\",[2]],[\"n\",[0,3]]]");
+    IS(giq_pulled_scan(bert, giq_rows(giq_nothing()), &answer), GIQ_OK);
+    TELLS("[[\"n\",[0]]]");
     IS(giq_pending(bert, &answer), GIQ_OK);
     TELLS("[[\"" BERT "\",1,\"m\"],[\"" ANNA "\",3,\"n\"],[\"" BERT "\",2,\"k\"]]");
 }

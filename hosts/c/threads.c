@@ -1,6 +1,7 @@
 /* Clients of one group on threads whose stacks have GIQ_STACK bytes. Four threads mutate at once, and no mutation may
- * be lost; each reads long values that the others put; then one makes calls with values, arguments, responses and rules
- * that nest as deep as they may. */
+ * be lost; each reads long values that the others put; two put pairs that two read, each pair in a reading; then one
+ * makes calls with values, arguments, responses and rules that nest as deep as they may. Readings are ended, left and
+ * closed. */
 #define _POSIX_C_SOURCE 200809L
 #include "giqaymu.h"
 
@@ -16,7 +17,7 @@
 #define STACK GIQ_STACK
 #endif
 
-enum { THREADS = 4, MUTATIONS = 2000, PUTS = 200, KEYS = 20, LONG = 300, SLOTS = 65536, DEEP = 124 };
+enum { THREADS = 4, MUTATIONS = 2000, PUTS = 200, PAIRS = 500, KEYS = 20, LONG = 300, SLOTS = 65536, DEEP = 124 };
 
 static const char FIRST[] =
     "{\"cookie\":1,\"lastMutationIDChanges\":{},\"patch\":[" PUT("n", "0") "]}";
@@ -88,6 +89,109 @@ static void *puts_and_gets(void *place) {
     return NULL;
 }
 
+/* The number at the key, 0 where there is none. */
+static long number_at(giq_place *place, const char *key) {
+    giq_answer answer;
+    char text[32];
+    if (done("get", giq_get(place, giq_text(key), &answer)) == GIQ_NONE) return 0;
+    (void)snprintf(text, sizeof text, "%.*s", (int)answer.bytes.len, (const char *)answer.bytes.at);
+    return strtol(text, NULL, 10);
+}
+
+static uint64_t moment(giq_place *place) {
+    giq_answer answer;
+    done("moment", giq_moment(place, &answer));
+    return answer.number;
+}
+
+/* Puts one number at two keys, again and again, each time the next one. */
+static void *puts_pairs(void *place) {
+    char args[32];
+    giq_answer answer;
+    int i;
+    for (i = 1; i <= PAIRS; i++) {
+        sprintf(args, "[%d]", i);
+        done("pair", giq_mutate((giq_place *)place, giq_text("pair"), giq_text(args), 1, &answer));
+    }
+    return NULL;
+}
+
+/* Reads both of a pair in a reading, up to the last number. Its moment stays, and no next one is earlier. */
+static void *reads_pairs(void *place) {
+    giq_place *at = (giq_place *)place;
+    giq_answer answer;
+    uint64_t last = 0, now;
+    long left;
+    do {
+        done("begin", giq_begin_read(at, &answer));
+        now = moment(at);
+        left = number_at(at, "left");
+        if (number_at(at, "right") != left) fail("torn", left);
+        if (moment(at) != now || now < last) fail("moment", (long)now);
+        last = now;
+        done("end", giq_end_read(at, &answer));
+    } while (left != PAIRS);
+    return NULL;
+}
+
+/* The first of the places at which pairs are read; at those before it they are put. */
+static giq_place *readers;
+
+static void *pairs(void *place) { return (giq_place *)place < readers ? puts_pairs(place) : reads_pairs(place); }
+
+static void refused(const char *what, int32_t returned, int32_t why) {
+    if (returned != why) fail(what, returned);
+}
+
+static void put_left(giq_place *place, const char *args) {
+    giq_answer answer;
+    done("refresh", giq_refresh(place, &answer));
+    done("put", giq_mutate(place, giq_text("put"), giq_text(args), 1, &answer));
+}
+
+/* While a reading is open, others' changes aren't seen; only tickets and watches may be given up. Then it ends. */
+static void ends(giq_place *reader, giq_place *writer) {
+    giq_answer answer;
+    uint32_t ticket, watch;
+    done("watch", giq_watch(reader, giq_rows(giq_text("left")), &answer));
+    watch = (uint32_t)answer.number;
+    done("pull", giq_begin_pull(reader, &answer));
+    ticket = (uint32_t)answer.number;
+    put_left(writer, "[\"left\",1]");
+    refused("no reading", giq_end_read(reader, &answer), GIQ_NOT_READ);
+    done("begin", giq_begin_read(reader, &answer));
+    put_left(writer, "[\"left\",2]");
+    if (number_at(reader, "left") != 1 || moment(reader) >= moment(writer)) fail("read", 1);
+    refused("begin", giq_begin_read(reader, &answer), GIQ_READS);
+    refused("put", giq_mutate(reader, giq_text("put"), giq_text("[\"left\",3]"), 1, &answer), GIQ_READS);
+    refused("poll", giq_poll(reader, watch, &answer), GIQ_READS);
+    refused("end", giq_end_pull(reader, ticket, giq_text(FIRST), &answer), GIQ_READS);
+    refused("sit", giq_sit(reader, giq_text(CLIENTS[0]), &answer), GIQ_IN_USE);
+    refused("ran", giq_ran(reader, GIQ_RAN, 0, &answer), GIQ_NOT_ASKED);
+    refused("pulled", giq_pulled_get(reader, giq_text("left"), &answer), GIQ_NONE);
+    done("pulled", giq_pulled_get(reader, giq_text("n"), &answer));
+    wanted("pulled", answer.bytes, "0");
+    done("unwatch", giq_unwatch(reader, watch, &answer));
+    refused("unwatch", giq_unwatch(reader, watch, &answer), GIQ_NO_WATCH);
+    done("forget", giq_forget_ticket(reader, ticket, &answer));
+    done("end", giq_end_read(reader, &answer));
+    if (number_at(reader, "left") != 2 || moment(reader) != moment(writer)) fail("read", 2);
+}
+
+/* A reading is given up where its client leaves, and where its place is closed. */
+static void left_and_closed(giq_place *reader) {
+    giq_answer answer;
+    done("begin", giq_begin_read(reader, &answer));
+    done("leave", giq_leave(reader, &answer));
+    refused("end", giq_end_read(reader, &answer), GIQ_NOT_READ);
+    refused("begin", giq_begin_read(reader, &answer), GIQ_NO_CLIENT);
+    done("sit", giq_sit(reader, giq_text(CLIENTS[0]), &answer));
+    done("begin", giq_begin_read(reader, &answer));
+    if (number_at(reader, "left") != 2) fail("read", 2);
+    giq_close(reader);
+    refused("end", giq_end_read(reader, &answer), GIQ_NO_PLACE);
+}
+
 /* The text `left` so many times, then `middle`, then `right` so many times, from `to` on; where it ends. */
 static char *nested(char *to, int depth, const char *left, const char *middle, const char *right) {
     int i;
@@ -126,7 +230,9 @@ static void open_all(giq_place *places) {
     char *end;
     size_t i;
 
-    end = rules + sprintf(rules, "{\"put\":[[\"put\",[\"arg\",0],[\"arg\",1]]],\"deep\":[[\"put\",\"e\",");
+    end = rules + sprintf(rules, "{\"put\":[[\"put\",[\"arg\",0],[\"arg\",1]]],");
+    end += sprintf(end, "\"pair\":[[\"put\",\"left\",[\"arg\",0]],[\"put\",\"right\",[\"arg\",0]]],");
+    end += sprintf(end, "\"deep\":[[\"put\",\"e\",");
     end = nested(end, DEEP - 1, "[\"or\",null,", "[\"arg\",0]", "]");
     sprintf(end, "]]}");
     opening.group = giq_text("00000000-0000-4000-8000-000000000001");
@@ -159,8 +265,13 @@ int main(void) {
     printf("%d threads, %s mutations, none lost\n", THREADS, sum);
     on_threads(THREADS, puts_and_gets, places);
     printf("%d values, none torn\n", THREADS * PUTS);
+    readers = places + THREADS / 2;
+    on_threads(THREADS, pairs, places);
+    printf("%d pairs, none torn in a reading\n", THREADS / 2 * PAIRS);
     on_threads(1, goes_deep, places);
     printf("nested %d deep in %d bytes of stack\n", DEEP, STACK);
+    ends(&places[1], &places[0]);
+    left_and_closed(&places[1]);
     for (i = 0; i < THREADS; i++) giq_close(&places[i]);
     return EXIT_SUCCESS;
 }

@@ -145,6 +145,7 @@ impl<M: Means> Arena<M> {
         look(slot, stamp)
     }
 
+    #[inline(always)]
     fn fill(&self, slot: u32, placed: Placed<M>, tries: u32) -> Result<u32, Busy>
         requires slot { slot < self.now.claims.sizes.slots }
         requires book { placed.mark.book ≡ self.now.book }

@@ -61,6 +61,7 @@ pub(crate) fn seat_all(
 }
 
 impl ArenaSeat {
+    #[inline(always)]
     pub(crate) fn take(&mut self, claims: &Claims, kind: Kind) -> Option<u32>
         requires { self.old.table ≡ claims.now }
         ensures table { self.new.table ≡ self.old.table }

@@ -1,6 +1,6 @@
 -- A change that asks for runs: what came of it is of its group, and is told.
 use Rattle.std.proofs.Common.{◌≡◌, ◌⊎◌, inl, inr, [], ◌++◌, None, Some, Result, Ok, Err, refl, sym, ap, ◌∙◌, subst}
-use Rattle.std.specs.Prelude.{⊤, Bool, if◌then◌else◌, is_ok, IfErr, IfOk, OnOk}
+use Rattle.std.specs.Prelude.{⊤, Bool, IfErr, IfOk, OnOk}
 use Rattle.std.proofs.Math.Logic.{∥∥₁_elim, ∥∥₁_map}
 use Rattle.group_history.specs.declared.mutators.Ran.{Ran}
 use Rattle.group_history.specs.declared.refusals.Refusal.{Refusal}
@@ -95,33 +95,30 @@ tells_next has means (asked.Ended c r) was ran told next fresh = told
 -- Who sat there was taken, and the place has what the change came to.
 pub stood : {M S T : Type 0} (step : Asked M S T) (P : UnderWay → Type 0)
     (E : ClientState → Result Replied Refusal → Type 0) (b taken new : PlaceState) (t : Told) → None ≡ b.seat
-    → taken ≡ record b { seat = None; client = None; asking = None } → Tells step P (λ c r. E c (map_ok reply_seen r))
-    → Stands step taken t new → AsksRun P b t new ⊎ Replies E b t new
-stood (asked.Run a) P E b taken new t free left tells stands = inl (record {
+    → None ≡ b.reading → taken ≡ record b { seat = None; client = None; asking = None; reading = None }
+    → Tells step P (λ c r. E c (map_ok reply_seen r)) → Stands step taken t new
+    → AsksRun P b t new ⊎ Replies E b t new
+stood (asked.Run a) P E b taken new t free closed left tells stands = inl (record {
   asking = a;
   asked = tells;
   told = stands.0;
   left = stands.1
-      ∙ ap (λ (p : PlaceState). record p { seat = None; client = None; asking = Some a }) left
-      ∙ ap (λ seat. record b { seat = seat; client = None; asking = Some a }) free;
+      ∙ ap (λ (p : PlaceState). record p { seat = None; client = None; asking = Some a; reading = None }) left
+      ∙ ap (λ seat. record b { seat = seat; client = None; asking = Some a; reading = None }) free
+      ∙ ap (λ reading. record b { client = None; asking = Some a; reading = reading }) closed;
 })
-stood (asked.Ended c r) P E b taken new t free left tells stands = inr (record {
+stood (asked.Ended c r) P E b taken new t free closed left tells stands = inr (record {
   client = c;
   reply = map_ok reply_seen r;
   ended = tells;
   told = stands.0;
   left = stands.1
-      ∙ ap (λ (p : PlaceState). record p { seat = None; client = Some c; asking = None }) left
-      ∙ ap (λ seat. record b { seat = seat; client = Some c; asking = None }) free;
+      ∙ ap (λ (p : PlaceState). record p { seat = None; client = Some c; asking = None; reading = None }) left
+      ∙ ap (λ seat. record b { seat = seat; client = Some c; asking = None; reading = None }) free
+      ∙ ap (λ reading. record b { client = Some c; asking = None; reading = reading }) closed;
 })
 
 -- ---- the run's map
-
--- bytes that were appended are behind those that were there
-pub appended : {A E : Type 0} (written : Result A E) (new old text : Bytes)
-    → new ≡ (if is_ok written then old ++ text else old) → OnOk written (new ≡ old ++ text)
-appended (Ok done) new old text is = is
-appended (Err e) new old text is = tt
 
 -- what was read of it was written, or memory was refused
 pub map_told : {X A E : Type 0} (tell : X → Told) (right : Entries → X) (asking : UnderWay) (x : X)

@@ -1,4 +1,5 @@
--- A place may go to another thread, also with a change that asks for a run: the chunks that its draft owns are no others'.
+-- A place may go to another thread, also with a change that asks for a run: the chunks that its draft owns are no
+-- others'.
 use denote.Enum.Declared as enum
 use denote.Param.Send.{IsSend, IsSync, enum_send, sendable, struct_send, view_send}
 use denote.Param.SendFields.{as_row_send, declared_send}
@@ -31,6 +32,7 @@ use Rattle.group_steps.specs.contracts.runs.BoxedRun as BoxedRun
 use Rattle.group_steps.specs.contracts.trying.Attempt as Attempt
 use Rattle.rebase.proofs.client.Client.TheSendSync as client
 use Rattle.rebase.proofs.group.Group.TheSendSync as group
+use Rattle.rebase.proofs.readers.Reader.TheSendSync as reader
 use Rattle.rebase.proofs.seats.Seat.TheSendSync as seat
 use Rattle.rebase.proofs.tickets.Ticket.TheSendSync as ticket
 use Rattle.rebase.proofs.watching.Watch.TheSendSync as watch
@@ -120,7 +122,10 @@ module _ (M : RattleType) (means : Means.Ghosts M.Denot) (m : IsSend M) (my : Is
         (seat.the_send M A ArenaSeat.the_row means slots arena_seat.the_send, tt),
         (
           (client.the_send M A ArenaSeat.the_row means slots m a arena_seat.the_send my ay, tt),
-          ((asking_send M A ArenaSeat.the_row means slots m a arena_seat.the_send my ay, tt), (tt, tt)),
+          (
+            (asking_send M A ArenaSeat.the_row means slots m a arena_seat.the_send my ay, tt),
+            ((reader.the_send M A ArenaSeat.the_row means slots m a arena_seat.the_send my ay, tt), (tt, tt)),
+          ),
         ),
       )
 

@@ -10,8 +10,7 @@ use Rattle.rebase.specs.Queries.{asked, asked_at}
 use Rattle.rebase.specs.declared.tickets.Ticket.{Ticket}
 use Rattle.client_desk.specs.declared.calls.Call.TheVariants as call
 use Rattle.client_desk.specs.declared.calls.Keep.{Keep}
-use Rattle.client_desk.specs.declared.faults.Fault.TheVariants as fault
-use Rattle.client_desk.specs.Answers.{Begins, ByClient, Lacks, Rule, made_room, tries}
+use Rattle.client_desk.specs.Answers.{Begins, ByClient, Lacks, Rule, absent, made_room, tries}
 use Rattle.client_desk.specs.Inside.Keeping.{Keeps}
 use Rattle.client_desk.specs.Kept.{room_for}
 use Rattle.client_desk.specs.Places.{PlaceState, with_tickets}
@@ -30,7 +29,8 @@ begun_here : (keep : Keep) (means : Meanings) (v : PlaceState) (client next : Cl
     → Lacks (made_room (call.Begin keep) v) t (with_tickets next tickets v)
     ⊎ ByClient (BeginsThere keep means) v t (with_tickets next tickets v)
 begun_here keep means v client next (Ok ticket) t tickets is answer refused stays (inl kept) =
-    inr (at_some v.client fault.NoClient (BeginsThere keep means) client v t (with_tickets next tickets v) is (record {
+    inr (at_some v.client (absent v.reading) (BeginsThere keep means) client v t (with_tickets next tickets v) is
+    (record {
       reply = Ok (asked ticket);
       next = next;
       answer = answer;
@@ -59,7 +59,8 @@ begun_here keep means v client next (Ok ticket) t tickets is answer refused stay
       });
     })
 begun_here keep means v client next (Err e) t tickets is answer refused stays (told, same) =
-    inr (at_some v.client fault.NoClient (BeginsThere keep means) client v t (with_tickets next tickets v) is (record {
+    inr (at_some v.client (absent v.reading) (BeginsThere keep means) client v t (with_tickets next tickets v) is
+    (record {
       reply = Err e;
       next = next;
       answer = answer;

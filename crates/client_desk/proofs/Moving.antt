@@ -1,5 +1,5 @@
 -- Who is taken from a place and put there.
-use Rattle.std.proofs.Common.{◌≡◌, ℕ, List, Option, Some, None, refl, sym, ap, ◌∙◌, subst}
+use Rattle.std.proofs.Common.{◌≡◌, ℕ, List, [], Option, Some, None, refl, sym, ap, ◌∙◌, subst}
 use Rattle.std.specs.Prelude.{⊤, Bool}
 use Rattle.std.proofs.Math.Logic.{∥∥₁_elim}
 use Rattle.std.specs.Coded.{Coded-set, codes}
@@ -8,20 +8,25 @@ use Rattle.group_history.specs.Meaning.{Meanings}
 use Rattle.head_word.specs.contracts.entry.Entry as entry
 use Rattle.answered.specs.Answered.{own_moves}
 use Rattle.group_steps.specs.Leaving.{Frees}
-use Rattle.rebase.specs.Clients.{Acts, ClientState, Grouped}
+use Rattle.rebase.specs.Clients.{Acts, ClientState, Grouped, IsSameClient, Stays}
 use Rattle.rebase.specs.Running.{BeganAs, UnderWay}
 use Rattle.rebase.specs.declared.tickets.Ticket.{Ticket}
+use Rattle.commit_graph.specs.Seats.{IsSameSeat}
+use Rattle.rebase.proofs.Causing.{looked_looked}
+use Rattle.client_desk.specs.declared.faults.Fault.{Fault}
 use Rattle.client_desk.specs.declared.faults.Fault.TheVariants as fault
-use Rattle.client_desk.specs.declared.outcomes.Outcome.TheVariants.{Done}
+use Rattle.client_desk.specs.declared.outcomes.Outcome.TheVariants.{Done, Faulty}
 use Rattle.client_desk.specs.declared.sitting.Sitting.{Sitting}
-use Rattle.client_desk.specs.Answers.{ByClient, Leaves, Rule}
+use Rattle.client_desk.specs.declared.sitting.Sitting.TheVariants as sits
+use Rattle.client_desk.specs.Answers.{ByAny, ByClient, ByReader, EndsReading, Leaves, Rule, absent}
 use Rattle.client_desk.specs.Drafts.{ByRun, GivesUp, LeavesAsked}
-use Rattle.client_desk.specs.Inside.Sitting.{CanSit, IsAt, IsLeft}
-use Rattle.client_desk.specs.Places.{PlaceState, free_place}
+use Rattle.client_desk.specs.Inside.Sitting.{CanSit, IsAt, IsLeft, IsTaken, with_sitting}
+use Rattle.client_desk.specs.Places.{PlaceState, client_at, free_place}
 use Rattle.client_desk.specs.Kept.{kept_at}
 use Rattle.client_desk.specs.Runs.{GaveUp, IsBegunAt}
+use Rattle.client_desk.specs.Sitting.{asking_of, client_of, reading_of}
 use Rattle.client_desk.specs.Told.{Told, told_alone}
-use Rattle.client_desk.proofs.Telling.{at_some}
+use Rattle.client_desk.proofs.Telling.{at_some, by_nobody, no_client}
 
 -- who was put there may sit there
 pub can_sit : (has : Bytes → Bool) (means : Meanings) (v b : PlaceState) {M : Type 0} (now sitting : Sitting M) → v ≡ b
@@ -31,12 +36,20 @@ can_sit has means v b now sitting is same fits =
     (subst (λ (p : PlaceState). CanSit has means p.group sitting) (sym is) fits)
 
 -- the client is one of the group, as the one before it
+at_same : (group : Grouped) (before after : ClientState) → IsAt group before → IsSameClient before after
+    → IsSameSeat before.seat after.seat → IsAt group after
+at_same group before after at client seat = (
+  client.0 ∙ at.0,
+  (seat.later.book ∙ at.1.0, seat.table ∙ at.1.1),
+)
+
 pub at_later : (group : Grouped) (before after : ClientState) → IsAt group before → Acts ⊤ before after
     → IsAt group after
-at_later group before after at acts = (
-  acts.client.0 ∙ at.0,
-  (acts.seat.later.book ∙ at.1.0, acts.seat.table ∙ at.1.1),
-)
+at_later group before after at acts = at_same group before after at acts.client acts.seat
+
+pub at_looked : (group : Grouped) (before after : ClientState) → IsAt group before → Stays ⊤ before after
+    → IsAt group after
+at_looked group before after at stays = at_same group before after at stays.0.client stays.0.looked.seat
 
 pub at_prop : (group : Grouped) (client : ClientState) → IsProp (IsAt group client)
 at_prop group client = hlevel (codes, Coded-set, entry.the_row.coded)
@@ -44,7 +57,7 @@ at_prop group client = hlevel (codes, Coded-set, entry.the_row.coded)
 -- what the client that sat there does, and the run that was asked for
 pub by_client : (rule : ClientState → Rule) (client : ClientState) (b new : PlaceState) (t : Told)
     → Some client ≡ b.client → rule client b t new → ByClient rule b t new
-by_client rule client b new t is done = at_some b.client fault.NoClient rule client b t new (sym is) done
+by_client rule client b new t is done = at_some b.client (absent b.reading) rule client b t new (sym is) done
 
 pub by_run : (rule : UnderWay → Rule) (a : UnderWay) (b new : PlaceState) (t : Told) → Some a ≡ b.asking
     → rule a b t new → ByRun rule b t new
@@ -53,21 +66,73 @@ by_run rule a b new t is done = at_some b.asking fault.NotAsked rule a b t new (
 -- a ticket that was found where the client was taken is one that it has
 pub ticket_kept : (v taken b : PlaceState) (shown : List (Option Ticket)) (n : ℕ) (kept : Ticket)
     → Some kept ≡ kept_at shown n → shown ≡ v.tickets → v ≡ taken
-    → taken ≡ record b { seat = None; client = None; asking = None } → kept_at b.tickets n ≡ Some kept
+    → taken ≡ record b { seat = None; client = None; asking = None; reading = None }
+    → kept_at b.tickets n ≡ Some kept
 ticket_kept v taken b shown n kept there same is left =
     ap (λ (p : PlaceState). kept_at p.tickets n) (sym left) ∙ ap (λ (p : PlaceState). kept_at p.tickets n) (sym is)
     ∙ ap (λ ts. kept_at ts n) (sym same) ∙ sym there
 
+-- who was taken was put there again
+pub back_there : (has : Bytes → Bool) (means : Meanings) {M : Type 0} (s : Sitting M) (b taken new : PlaceState)
+    → IsTaken has means s b taken → new ≡ with_sitting s taken → new ≡ b
+back_there has means s b taken new was put =
+    put
+    ∙ ap (λ (p : PlaceState). with_sitting s p) was.left
+    ∙ ap (λ o. record b { seat = o; client = client_of s; asking = asking_of s; reading = reading_of s }) was.seat
+    ∙ ap (λ o. record b { client = o; asking = asking_of s; reading = reading_of s }) was.client
+    ∙ ap (λ o. record b { asking = o; reading = reading_of s }) was.asking
+    ∙ ap (λ o. record b { reading = o }) was.reading
+
+-- and was no client
+pub none_there : (rule : ClientState → Rule) (has : Bytes → Bool) (means : Meanings) {M : Type 0} (s : Sitting M)
+    (b taken new : PlaceState) (f : Fault) → IsTaken has means s b taken → new ≡ with_sitting s taken
+    → ((x : _) → s ≡ sits.Client x → ⊥) → f ≡ absent (reading_of s) → ByClient rule b (told_alone (Faulty f)) new
+none_there rule has means s b taken new f was put other is =
+    by_nobody rule new b f [] (back_there has means s b taken new was put)
+    (ap (λ (p : PlaceState). p.client) put ∙ no_client s other)
+    (is ∙ sym (ap (λ (p : PlaceState). absent p.reading) put)) refl
+
 -- the client left
-pub left_place : (b taken new : PlaceState) (client : ClientState) → Some client ≡ b.client
-    → taken ≡ record b { seat = None; client = None; asking = None } → IsLeft client taken new
-    → ByClient Leaves b (told_alone Done) new
+pub left_place : (b taken new : PlaceState) (client : ClientState) → Some client ≡ client_at b
+    → taken ≡ record b { seat = None; client = None; asking = None; reading = None } → IsLeft client taken new
+    → ByAny Leaves b (told_alone Done) new
 left_place b taken new client is left gone =
-    by_client Leaves client b new (told_alone Done) is (record {
+    at_some (client_at b) fault.NoClient Leaves client b (told_alone Done) new (sym is) (record {
       seat = gone.0;
       gone = gone.1;
       told = refl;
       left = gone.2 ∙ ap (λ (p : PlaceState). free_place p.group gone.0) left;
+    })
+
+-- where it had a reading open, which ended first
+pub left_reading : (reader client : ClientState) (taken new : PlaceState) → Stays ⊤ reader client
+    → client.seat.mark ≡ reader.seat.mark → IsLeft client taken new → IsLeft reader taken new
+left_reading reader client taken new stays same gone = (
+  gone.0,
+  record {
+    looked = looked_looked ⊤ reader.seat client.seat gone.0 stays.0.looked gone.1.looked;
+    mark = gone.1.mark ∙ same;
+    rests = gone.1.rests;
+  },
+  gone.2,
+)
+
+-- a reading ended
+pub read_ended : (b taken new : PlaceState) (reader client : ClientState) → Some reader ≡ b.reading → None ≡ b.seat
+    → None ≡ b.asking → taken ≡ record b { seat = None; client = None; asking = None; reading = None }
+    → Stays ⊤ reader client → client.seat.mark ≡ reader.seat.mark
+    → new ≡ record taken { seat = None; client = Some client; asking = None; reading = None }
+    → ByReader EndsReading b (told_alone Done) new
+read_ended b taken new reader client is free calm left stays same put =
+    at_some b.reading fault.NotRead EndsReading reader b (told_alone Done) new (sym is) (record {
+      client = client;
+      stays = stays;
+      mark = same;
+      told = refl;
+      left = put
+          ∙ ap (λ (p : PlaceState). record p { seat = None; client = Some client; asking = None; reading = None }) left
+          ∙ ap (λ seat. record b { seat = seat; client = Some client; asking = None; reading = None }) free
+          ∙ ap (λ asking. record b { client = Some client; asking = asking; reading = None }) calm;
     })
 
 -- ---- a change that is given up
@@ -88,22 +153,24 @@ gave_at means group was client begun given =
     ∥∥₁_elim begun (at_prop group client) (λ b. at_later group b.0 client (b.1, b.2) (given b.0 b.3).acts)
 
 pub gave_up : (means : Meanings) (b taken new : PlaceState) (a : UnderWay) (client : ClientState) → Some a ≡ b.asking
-    → None ≡ b.seat → taken ≡ record b { seat = None; client = None; asking = None } → GaveUp means a client
-    → new ≡ record taken { seat = None; client = Some client; asking = None }
+    → None ≡ b.seat → None ≡ b.reading
+    → taken ≡ record b { seat = None; client = None; asking = None; reading = None } → GaveUp means a client
+    → new ≡ record taken { seat = None; client = Some client; asking = None; reading = None }
     → ByRun (GivesUp means) b (told_alone Done) new
-gave_up means b taken new a client is free left given put =
+gave_up means b taken new a client is free closed left given put =
     by_run (GivesUp means) a b new (told_alone Done) is (record {
       client = client;
       gave = given;
       told = refl;
       left = put
-          ∙ ap (λ (p : PlaceState). record p { seat = None; client = Some client; asking = None }) left
-          ∙ ap (λ seat. record b { seat = seat; client = Some client; asking = None }) free;
+          ∙ ap (λ (p : PlaceState). record p { seat = None; client = Some client; asking = None; reading = None }) left
+          ∙ ap (λ seat. record b { seat = seat; client = Some client; asking = None; reading = None }) free
+          ∙ ap (λ reading. record b { client = Some client; asking = None; reading = reading }) closed;
     })
 
 pub left_asked : (means : Meanings) (b taken new : PlaceState) (a : UnderWay) (client : ClientState)
-    → Some a ≡ b.asking → taken ≡ record b { seat = None; client = None; asking = None } → GaveUp means a client
-    → IsLeft client taken new → ByRun (LeavesAsked means) b (told_alone Done) new
+    → Some a ≡ b.asking → taken ≡ record b { seat = None; client = None; asking = None; reading = None }
+    → GaveUp means a client → IsLeft client taken new → ByRun (LeavesAsked means) b (told_alone Done) new
 left_asked means b taken new a client is left given gone =
     by_run (LeavesAsked means) a b new (told_alone Done) is (record {
       seat = gone.0;

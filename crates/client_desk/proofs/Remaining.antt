@@ -1,12 +1,14 @@
--- A call of the client that sits at a place, but for one that sits down or leaves, leaves the same client there, which
--- knows no less; and it asks for no run.
+-- A call of the client that sits at a place, but for one that sits down, leaves or begins a reading, leaves the same
+-- client there, which knows no less; and it asks for no run.
 use Rattle.std.proofs.Common.{◌≡◌, List, [], ap, inl, inr, ◌∙◌, refl, subst, sym, true, Option, Some, None, Result, Ok}
 use Rattle.std.proofs.Common.{Err}
 use Rattle.std.proofs.lemmas.List.{append-nil}
-use Rattle.std.specs.Prelude.{⊤}
+use Rattle.std.specs.Prelude.{⊤, drop}
+use Rattle.std.specs.FinMap as finite
 use Rattle.group_history.specs.declared.scans.Scan.{Scan}
 use Rattle.group_history.specs.Meaning.{Meanings}
 use Rattle.group_history.specs.Queries.{get_at, has_at, is_empty_at, view_rows}
+use Rattle.group_history.specs.Scans.{rows_of}
 use Rattle.group_history.specs.State.{State}
 use Rattle.push_body.specs.Bodies.{push_text}
 use Rattle.commit_graph.specs.Seats.{IsSameSeat, Seated}
@@ -23,32 +25,35 @@ use Rattle.client_desk.specs.declared.calls.Call.TheVariants as call
 use Rattle.client_desk.specs.declared.calls.Keep.{Keep}
 use Rattle.client_desk.specs.declared.faults.Fault.{Fault}
 use Rattle.client_desk.specs.declared.faults.Fault.TheVariants as fault
-use Rattle.client_desk.specs.Answers.{At, Begins, ByClient, HasOnlyLooked, IsBegun, Lacks, Polls, Reads, Refreshes}
-use Rattle.client_desk.specs.Answers.{Rule, Watches, made_room}
+use Rattle.client_desk.specs.Answers.{Asks, AsksAs, At, Begins, ByClient, CountsFree, EndsReading, HasOnlyLooked}
+use Rattle.client_desk.specs.Answers.{IsBegun, Lacks, Polls, Reads, Refreshes, Rule, TellsMoment, TellsMomentAs}
+use Rattle.client_desk.specs.Answers.{Unwatches, Watches, absent, made_room}
 use Rattle.client_desk.specs.Calls.{AnswersCalm, MayAnswerAt}
+use Rattle.client_desk.specs.Inside.Sitting.{IsCalm}
 use Rattle.client_desk.specs.Kept.{kept_at}
 use Rattle.client_desk.specs.Places.{PlaceState}
 use Rattle.client_desk.specs.Told.{Told, bytes_told, cookie_told, is_told, pending_told, rows_told, value_told}
 use Rattle.client_desk.specs.Waiting.{IsEndOf, MayAnswerWaiting, Waits}
 
--- the call is none that sits down or leaves
+-- the call is none that sits down, leaves or begins a reading
 abbrev pub IsSitting : Call → Type 0
 IsSitting (call.Sit id) = ⊥
 IsSitting call.Leave = ⊥
+IsSitting call.BeginRead = ⊥
 IsSitting other = ⊤
 
--- who sits at a place, and the change there that asks for a run
-abbrev who : PlaceState → Option ClientState × Option UnderWay
-who p = (p.client, p.asking)
+-- who sits at a place, the change there that asks for a run, and who has a reading open
+abbrev who : PlaceState → Option ClientState × Option UnderWay × Option ClientState
+who p = (p.client, p.asking, p.reading)
 
 room_same : (made : Call) (b : PlaceState) → who (made_room made b) ≡ who b
 room_same (call.Begin keep) b = refl
 room_same (call.Watch keep scan) b = refl
 room_same other b = refl
 
--- the same client, which knows no less, sits at the place, and no run is asked for
+-- the same client, which knows no less, sits at the place, where no run is asked for and no reading is open
 abbrev pub Sits : ClientState → PlaceState → Type 0
-Sits c a = (d : ClientState) × (a.client ≡ Some d) × (a.asking ≡ None) × IsSameClient c d × IsSameSeat c.seat d.seat
+Sits c a = (d : ClientState) × (a.client ≡ Some d) × IsCalm a × IsSameClient c d × IsSameSeat c.seat d.seat
 
 same_seat : (s : Seated) → IsSameSeat s s
 same_seat s = record {
@@ -57,21 +62,24 @@ same_seat s = record {
 }
 
 module _ (means : Meanings) (c : ClientState) (b a : PlaceState) (t : Told) (sits : b.client ≡ Some c)
-    (calm : b.asking ≡ None) where
+    (calm : IsCalm b) where
+  moved_on : (d : ClientState) → who a ≡ (Some d, b.asking, b.reading) → IsSameClient c d → IsSameSeat c.seat d.seat
+      → Sits c a
+  moved_on d is client seat =
+      (d, ap (λ w. w.0) is, (ap (λ w. w.1) is ∙ calm.0, ap (λ w. w.2) is ∙ calm.1), client, seat)
+
   as_before : who a ≡ who b → Sits c a
-  as_before same = (c, ap (λ w. w.0) same ∙ sits, ap (λ w. w.1) same ∙ calm, (refl, refl), same_seat c.seat)
+  as_before same = moved_on c (same ∙ ap (λ o. (o, b.asking, b.reading)) sits) (refl, refl) (same_seat c.seat)
 
-  moved_on : (d : ClientState) → who a ≡ (Some d, b.asking) → IsSameClient c d → IsSameSeat c.seat d.seat → Sits c a
-  moved_on d is client seat = (d, ap (λ w. w.0) is, ap (λ w. w.1) is ∙ calm, client, seat)
-
-  by_looks : (d : ClientState) → who a ≡ (Some d, b.asking) → Looks ⊤ c d → Sits c a
+  by_looks : (d : ClientState) → who a ≡ (Some d, b.asking, b.reading) → Looks ⊤ c d → Sits c a
   by_looks d is l = moved_on d is l.client l.looked.seat
 
   only_looked : (p : PlaceState) → who p ≡ who b → HasOnlyLooked p a → Sits c a
   only_looked p same h =
       let here : Some h.old ≡ Some c = sym h.sits ∙ ap (λ w. w.0) same ∙ sits in
       let is : h.old ≡ c = cc here in
-      by_looks h.new (ap who h.left ∙ ap (λ w. (Some h.new, w.1)) same) (subst (λ o. Looks ⊤ o h.new) is h.stays.0)
+      by_looks h.new (ap who h.left ∙ ap (λ w. (Some h.new, w.1, w.2)) same)
+      (subst (λ o. Looks ⊤ o h.new) is h.stays.0)
 
   lacks : (made : Call) → Lacks (made_room made b) t a → Sits c a
   lacks made l = elim l.left [
@@ -85,26 +93,40 @@ module _ (means : Meanings) (c : ClientState) (b a : PlaceState) (t : Told) (sit
   at_sits None none rule each h = as_before (ap who h.1)
 
   by_sits : (rule : ClientState → Rule) → (rule c b t a → Sits c a) → ByClient rule b t a → Sits c a
-  by_sits rule each h = each (subst (λ o. At o fault.NoClient rule b t a) sits h)
+  by_sits rule each h = each (subst (λ o. At o (absent b.reading) rule b t a) sits h)
 
   reads_sits : {X : Type 0} (tell : X → Told) (right : State → X) → Reads tell right means c b t a → Sits c a
   reads_sits tell right h = by_looks h.0 (ap who h.2) h.1.stays.0
 
-  asks_sits : {X : Type 0} (tell : X → Told) (right : State → X) → ByClient (Reads tell right means) b t a → Sits c a
-  asks_sits tell right h = by_sits (Reads tell right means) (reads_sits tell right) h
+  asks_sits : {X : Type 0} (tell : X → Told) (right : ClientState → State → X) → Asks tell right means b t a → Sits c a
+  asks_sits tell right h =
+      by_sits (λ d. Reads tell (right d) means d) (reads_sits tell (right c))
+      (subst (λ o. AsksAs tell right means o b t a) calm.1 h)
+
+  moment_sits : TellsMomentAs means b.reading b t a → Sits c a
+  moment_sits h =
+      by_sits (TellsMoment means) (λ m. moved_on m.next (ap who m.left) m.same.0 m.looked.seat)
+      (subst (λ o. TellsMomentAs means o b t a) calm.1 h)
 
   calm_sits : (made : Call) → (AnswersCalm (λ name. true) means made b t a → Sits c a)
       → MayAnswerAt (λ name. true) means made b.asking b t a → Sits c a
   calm_sits made each h =
-      elim (subst (λ x. MayAnswerAt (λ name. true) means made x b t a) calm h) [
+      elim (subst (λ x. MayAnswerAt (λ name. true) means made x b t a) calm.0 h) [
         | inl dry ↦ lacks made dry.1
         | inr done ↦ each done
       ]
 
-  begun_sits : (keep : Keep) (reply : Result Begun Refusal) (next : ClientState) (p : PlaceState)
-      → p.asking ≡ b.asking → Looks ⊤ c next → IsBegun keep reply next p t a → Sits c a
-  begun_sits keep (Ok asked) next p same l k = by_looks next (ap who k.left ∙ ap (λ x. (Some next, x)) same) l
-  begun_sits keep (Err e) next p same l k = by_looks next (ap who k.1 ∙ ap (λ x. (Some next, x)) same) l
+  none_ends : At None fault.NotRead EndsReading b t a → Sits c a
+  none_ends h = as_before (ap who h.1)
+
+  counts_sits : CountsFree c b t a → Sits c a
+  counts_sits h = moved_on h.0 (ap who h.2) h.1.same.0 h.1.looked.seat
+
+  begun_sits : (keep : Keep) (reply : Result Begun Refusal) (next : ClientState) (p : PlaceState) → who p ≡ who b
+      → Looks ⊤ c next → IsBegun keep reply next p t a → Sits c a
+  begun_sits keep (Ok asked) next p same l k =
+      by_looks next (ap who k.left ∙ ap (λ w. (Some next, w.1, w.2)) same) l
+  begun_sits keep (Err e) next p same l k = by_looks next (ap who k.1 ∙ ap (λ w. (Some next, w.1, w.2)) same) l
 
   begins_sits : (keep : Keep) → Begins keep means c (made_room (call.Begin keep) b) t a → Sits c a
   begins_sits keep h = begun_sits keep h.reply h.next (made_room (call.Begin keep) b) refl h.stays.0 h.begun
@@ -123,6 +145,10 @@ module _ (means : Meanings) (c : ClientState) (b a : PlaceState) (t : Told) (sit
       (λ kept. waits_sits (IsEndOf kept body.now))) h
   remains (call.Sit id) is h = absurd is
   remains call.Leave is h = absurd is
+  remains call.BeginRead is h = absurd is
+  remains call.EndRead is h =
+      calm_sits call.EndRead (λ e. none_ends (subst (λ o. At o fault.NotRead EndsReading b t a) calm.1 e)) h
+  remains call.Slots is h = calm_sits call.Slots (by_sits CountsFree counts_sits) h
   remains call.Refresh is h =
       calm_sits call.Refresh (by_sits (Refreshes means) (λ r. by_looks r.next (ap who r.left) r.looks)) h
   remains (call.Begin keep) is h =
@@ -133,22 +159,30 @@ module _ (means : Meanings) (c : ClientState) (b a : PlaceState) (t : Told) (sit
       (λ kept f. as_before (ap who f.1))) h
   remains (call.Watch keep scan) is h =
       calm_sits (call.Watch keep scan)
-      (by_sits (λ c p. Watches keep scan.now c (made_room (call.Watch keep scan) p)) (watches_sits keep scan.now (made_room (call.Watch keep scan) b) refl)) h
+      (by_sits (λ c p. Watches keep scan.now c (made_room (call.Watch keep scan) p))
+      (watches_sits keep scan.now (made_room (call.Watch keep scan) b) refl)) h
   remains (call.Poll n) is h =
       calm_sits (call.Poll n) (by_sits
       (λ c p. At (kept_at p.watches n) fault.NoWatch (λ watch. Polls means c n watch) p)
       (at_sits (kept_at b.watches n) fault.NoWatch (λ watch. Polls means c n watch)
       (λ watch p. by_looks p.next (ap who p.left) p.stays.0))) h
-  remains (call.Get key) is h = calm_sits (call.Get key) (asks_sits value_told (λ s. get_at means s key.now)) h
-  remains (call.Has key) is h = calm_sits (call.Has key) (asks_sits is_told (λ s. has_at means s key.now)) h
+  remains (call.Unwatch n) is h =
+      calm_sits (call.Unwatch n) (at_sits (kept_at b.watches n) fault.NoWatch (Unwatches n)
+      (λ kept u. as_before (ap who u.1))) h
+  remains (call.Get key) is h = calm_sits (call.Get key) (asks_sits value_told (λ c s. get_at means s key.now)) h
+  remains (call.Has key) is h = calm_sits (call.Has key) (asks_sits is_told (λ c s. has_at means s key.now)) h
   remains (call.Scan scan) is h =
-      calm_sits (call.Scan scan) (asks_sits rows_told (λ s. view_rows means s scan.now)) h
-  remains call.Empty is h = calm_sits call.Empty (asks_sits is_told (λ s. is_empty_at means s)) h
-  remains call.Pending is h = calm_sits call.Pending (asks_sits pending_told (λ s. s.pending)) h
-  remains call.Cookie is h = calm_sits call.Cookie (asks_sits cookie_told (λ s. s.cookie)) h
-  remains call.Closed is h = calm_sits call.Closed (asks_sits is_told (λ s. s.closed)) h
-  remains call.Push is h =
-      calm_sits call.Push (by_sits
-      (λ c. Reads bytes_told (λ s. push_text c.group.identity s.pending) means c)
-      (reads_sits bytes_told (λ s. push_text c.group.identity s.pending))) h
+      calm_sits (call.Scan scan) (asks_sits rows_told (λ c s. view_rows means s scan.now)) h
+  remains (call.PulledGet key) is h =
+      calm_sits (call.PulledGet key) (asks_sits value_told (λ c s. finite.get s.pulled key.now)) h
+  remains (call.PulledScan scan) is h =
+      calm_sits (call.PulledScan scan) (asks_sits rows_told (λ c s. rows_of scan.now s.pulled)) h
+  remains call.Empty is h = calm_sits call.Empty (asks_sits is_told (λ c s. is_empty_at means s)) h
+  remains call.Pending is h = calm_sits call.Pending (asks_sits pending_told (λ c s. s.pending)) h
+  remains call.Cookie is h = calm_sits call.Cookie (asks_sits cookie_told (λ c s. s.cookie)) h
+  remains call.Closed is h = calm_sits call.Closed (asks_sits is_told (λ c s. s.closed)) h
+  remains (call.Push skip) is h =
+      calm_sits (call.Push skip)
+      (asks_sits bytes_told (λ c s. push_text c.group.identity (drop skip s.pending))) h
+  remains call.Moment is h = calm_sits call.Moment moment_sits h
   remains other is h = calm_sits other (λ n. as_before (ap who n.1)) h

@@ -7,20 +7,23 @@ use Rattle.rebase.specs.Clients.{ClientState, Grouped}
 use Rattle.rebase.specs.Queries.{Asked as Begun}
 use Rattle.rebase.specs.Running.{UnderWay}
 use Rattle.rebase.specs.declared.tickets.Ticket.{Ticket}
-use Rattle.std.specs.Prelude.{IfSome}
+use Rattle.std.specs.Prelude.{IfSome, drop}
+use Rattle.std.specs.FinMap as finite
 use Rattle.client_desk.specs.Runs.{IsAsking}
 use Rattle.client_desk.specs.declared.calls.Call.{Call}
 use Rattle.client_desk.specs.declared.calls.Call.TheVariants as call
 use Rattle.client_desk.specs.declared.calls.Keep.{Keep}
 use Rattle.client_desk.specs.declared.faults.Fault.{Fault}
 use Rattle.client_desk.specs.declared.faults.Fault.TheVariants as fault
-use Rattle.client_desk.specs.Answers.{At, Begins, ByClient, Forgets, IsBegun, Lacks, Leaves, Polls, Reads, Refreshes}
-use Rattle.client_desk.specs.Answers.{Rule, Sits, Watches, made_room}
+use Rattle.client_desk.specs.Answers.{Asks, AsksAs, At, Begins, ByClient, CountsFree, EndsReading, Forgets, IsBegun}
+use Rattle.client_desk.specs.Answers.{Lacks, Leaves, MayBeginReading, Polls, Reads, Refreshes, Rule, Sits, TellsMoment}
+use Rattle.client_desk.specs.Answers.{TellsMomentAs, Unwatches, Watches, absent, made_room}
 use Rattle.client_desk.specs.Calls.{AnswersCalm, MayAnswerAt}
-use Rattle.client_desk.specs.Places.{PlaceState}
+use Rattle.client_desk.specs.Places.{PlaceState, client_at}
 use Rattle.client_desk.specs.Kept.{kept_at}
 use Rattle.client_desk.specs.Told.{Told, bytes_told, cookie_told, is_told, pending_told, rows_told, value_told}
 use Rattle.group_history.specs.Queries.{get_at, has_at, is_empty_at, view_rows}
+use Rattle.group_history.specs.Scans.{rows_of}
 use Rattle.push_body.specs.Bodies.{push_text}
 use Rattle.client_desk.specs.Waiting.{IsEndOf, MayAnswerWaiting, Waits}
 use Rattle.group_history.specs.declared.scans.Scan.{Scan}
@@ -52,14 +55,23 @@ module _ (means : Meanings) (b a : PlaceState) (t : Told) where
   at_stays None none rule each h = ap group_of h.1
 
   by_stays : (rule : ClientState → Rule) → ((c : ClientState) → rule c b t a → Stays) → ByClient rule b t a → Stays
-  by_stays rule each h = at_stays b.client _ rule each h
+  by_stays rule each h = at_stays b.client (absent b.reading) rule each h
 
   reads_stays : {X : Type 0} (tell : X → Told) (right : State → X) (c : ClientState) → Reads tell right means c b t a
       → Stays
   reads_stays tell right c h = ap group_of h.2
 
-  asks_stays : {X : Type 0} (tell : X → Told) (right : State → X) → ByClient (Reads tell right means) b t a → Stays
-  asks_stays tell right h = by_stays (Reads tell right means) (λ c. reads_stays tell right c) h
+  asked_stays : {X : Type 0} (tell : X → Told) (right : ClientState → State → X) (o : Option ClientState)
+      → AsksAs tell right means o b t a → Stays
+  asked_stays tell right (Some reader) h = ap group_of h.1
+  asked_stays tell right None h = by_stays (λ c. Reads tell (right c) means c) (λ c. reads_stays tell (right c) c) h
+
+  asks_stays : {X : Type 0} (tell : X → Told) (right : ClientState → State → X) → Asks tell right means b t a → Stays
+  asks_stays tell right h = asked_stays tell right b.reading h
+
+  moment_stays : (o : Option ClientState) → TellsMomentAs means o b t a → Stays
+  moment_stays (Some reader) h = ap group_of h.1
+  moment_stays None h = by_stays (TellsMoment means) (λ c m. ap group_of m.left) h
 
   calm_stays : (made : Call) → b.asking ≡ None → (AnswersCalm (λ name. true) means made b t a → Stays)
       → MayAnswerAt (λ name. true) means made b.asking b t a → Stays
@@ -87,12 +99,24 @@ module _ (means : Meanings) (b a : PlaceState) (t : Told) where
   leaves_stays : (c : ClientState) → Leaves c b t a → Stays
   leaves_stays c l = ap group_of l.left
 
+  begins_reading_stays : (c : ClientState) → MayBeginReading means c b t a → Stays
+  begins_reading_stays c h = elim h [ inl begun ↦ ap group_of begun.left | inr lost ↦ ap group_of lost.left ]
+
+  ends_reading_stays : (reader : ClientState) → EndsReading reader b t a → Stays
+  ends_reading_stays reader e = ap group_of e.left
+
   refreshes_stays : (c : ClientState) → Refreshes means c b t a → Stays
   refreshes_stays c r = ap group_of r.left
+
+  counts_stays : (c : ClientState) → CountsFree c b t a → Stays
+  counts_stays c h = ap group_of h.2
 
   watches_stays : (keep : Keep) (scan : Scan) (p : PlaceState) (c : ClientState) → p.group ≡ b.group
       → Watches keep scan c p t a → Stays
   watches_stays keep scan p c same w = ap group_of w.left ∙ same
+
+  unwatches_stays : (n : ℕ) (watch : Watched) → Unwatches n watch b t a → Stays
+  unwatches_stays n watch u = ap group_of u.1
 
   polls_stays : (n : ℕ) (c : ClientState) (watch : Watched) → Polls means c n watch b t a → Stays
   polls_stays n c watch p = ap group_of p.left
@@ -107,7 +131,13 @@ module _ (means : Meanings) (b a : PlaceState) (t : Told) where
       (λ c. at_stays (kept_at b.tickets n) fault.NoTicket (λ kept. Waits means (IsEndOf kept body.now) c)
       (λ kept. waits_stays (IsEndOf kept body.now) c)) h
   stays (call.Sit id) none h = calm_stays (call.Sit id) none (sits_stays id.now) h
-  stays call.Leave none h = calm_stays call.Leave none (by_stays Leaves leaves_stays) h
+  stays call.Leave none h =
+      calm_stays call.Leave none (at_stays (client_at b) fault.NoClient Leaves leaves_stays) h
+  stays call.BeginRead none h =
+      calm_stays call.BeginRead none (by_stays (MayBeginReading means) begins_reading_stays) h
+  stays call.EndRead none h =
+      calm_stays call.EndRead none (at_stays b.reading fault.NotRead EndsReading ends_reading_stays) h
+  stays call.Slots none h = calm_stays call.Slots none (by_stays CountsFree counts_stays) h
   stays call.Refresh none h =
       calm_stays call.Refresh none (by_stays (Refreshes means) refreshes_stays) h
   stays (call.Begin keep) none h =
@@ -117,23 +147,32 @@ module _ (means : Meanings) (b a : PlaceState) (t : Told) where
       calm_stays (call.Forget n) none (at_stays (kept_at b.tickets n) fault.NoTicket (Forgets n) (forgets_stays n)) h
   stays (call.Watch keep scan) none h =
       calm_stays (call.Watch keep scan) none
-      (by_stays (λ c p. Watches keep scan.now c (made_room (call.Watch keep scan) p)) (λ c. watches_stays keep scan.now (made_room (call.Watch keep scan) b) c refl)) h
+      (by_stays (λ c p. Watches keep scan.now c (made_room (call.Watch keep scan) p))
+      (λ c. watches_stays keep scan.now (made_room (call.Watch keep scan) b) c refl)) h
   stays (call.Poll n) none h =
       calm_stays (call.Poll n) none (by_stays
       (λ c p. At (kept_at p.watches n) fault.NoWatch (λ watch. Polls means c n watch) p)
       (λ c. at_stays (kept_at b.watches n) fault.NoWatch (λ watch. Polls means c n watch) (polls_stays n c))) h
-  stays (call.Get key) none h = calm_stays (call.Get key) none (asks_stays value_told (λ s. get_at means s key.now)) h
-  stays (call.Has key) none h = calm_stays (call.Has key) none (asks_stays is_told (λ s. has_at means s key.now)) h
+  stays (call.Unwatch n) none h =
+      calm_stays (call.Unwatch n) none (at_stays (kept_at b.watches n) fault.NoWatch (Unwatches n)
+      (unwatches_stays n)) h
+  stays (call.Get key) none h =
+      calm_stays (call.Get key) none (asks_stays value_told (λ c s. get_at means s key.now)) h
+  stays (call.Has key) none h = calm_stays (call.Has key) none (asks_stays is_told (λ c s. has_at means s key.now)) h
   stays (call.Scan scan) none h =
-      calm_stays (call.Scan scan) none (asks_stays rows_told (λ s. view_rows means s scan.now)) h
-  stays call.Empty none h = calm_stays call.Empty none (asks_stays is_told (λ s. is_empty_at means s)) h
-  stays call.Pending none h = calm_stays call.Pending none (asks_stays pending_told (λ s. s.pending)) h
-  stays call.Cookie none h = calm_stays call.Cookie none (asks_stays cookie_told (λ s. s.cookie)) h
-  stays call.Closed none h = calm_stays call.Closed none (asks_stays is_told (λ s. s.closed)) h
-  stays call.Push none h =
-      calm_stays call.Push none (by_stays
-      (λ c. Reads bytes_told (λ s. push_text c.group.identity s.pending) means c)
-      (λ c. reads_stays bytes_told (λ s. push_text c.group.identity s.pending) c)) h
+      calm_stays (call.Scan scan) none (asks_stays rows_told (λ c s. view_rows means s scan.now)) h
+  stays (call.PulledGet key) none h =
+      calm_stays (call.PulledGet key) none (asks_stays value_told (λ c s. finite.get s.pulled key.now)) h
+  stays (call.PulledScan scan) none h =
+      calm_stays (call.PulledScan scan) none (asks_stays rows_told (λ c s. rows_of scan.now s.pulled)) h
+  stays call.Empty none h = calm_stays call.Empty none (asks_stays is_told (λ c s. is_empty_at means s)) h
+  stays call.Pending none h = calm_stays call.Pending none (asks_stays pending_told (λ c s. s.pending)) h
+  stays call.Cookie none h = calm_stays call.Cookie none (asks_stays cookie_told (λ c s. s.cookie)) h
+  stays call.Closed none h = calm_stays call.Closed none (asks_stays is_told (λ c s. s.closed)) h
+  stays (call.Push skip) none h =
+      calm_stays (call.Push skip) none
+      (asks_stays bytes_told (λ c s. push_text c.group.identity (drop skip s.pending))) h
+  stays call.Moment none h = calm_stays call.Moment none (moment_stays b.reading) h
   stays other none h = calm_stays other none (λ n. ap group_of n.1) h
 
 -- a group that has all mutators asks for no run

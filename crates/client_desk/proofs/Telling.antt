@@ -1,21 +1,28 @@
 -- What a call of a place may tell.
-use Rattle.std.proofs.Common.{◌≡◌, ◌⊎◌, ◌+◌, inl, inr, ℕ, [], ◌++◌, Option, Some, Result, Ok, Err, refl}
+use Rattle.std.proofs.Common.{◌≡◌, ◌⊎◌, ◌+◌, inl, inr, ℕ, [], ◌++◌, Option, Some, None, Result, Ok, Err, refl}
 use Rattle.std.proofs.Common.{sym, ap, ◌∙◌, subst}
-use Rattle.std.specs.Prelude.{⊤, IfErr, IfOk, OnOk}
+use Rattle.std.specs.Prelude.{⊤, Bool, true, false, if◌then◌else◌, is_ok, IfErr, IfOk, OnOk}
 use Rattle.group_history.specs.Meaning.{Meanings}
 use Rattle.group_history.specs.declared.refusals.Refusal.{Refusal}
+use Rattle.group_history.specs.declared.refusals.Refusal.TheVariants.{NoMemory}
 use Rattle.group_history.specs.Map.{Bytes}
 use Rattle.group_history.specs.State.{State, last_id}
-use Rattle.answered.specs.Answered.{IsLinearized, no_change}
+use Rattle.answered.specs.Answered.{IsLinearized, IsPoint, IsRefused, no_change}
+use Rattle.commit_graph.specs.Seats.{HasLooked}
 use Rattle.group_steps.specs.Missing.{IsStoreRefusal}
-use Rattle.rebase.specs.Clients.{ClientState, Looks, Stays}
+use Rattle.head_word.specs.Laws.{moment}
+use Rattle.head_word.specs.Marks.{Known}
+use Rattle.rebase.specs.Clients.{ClientState, IsSameClient, Looks, Stays}
 use Rattle.client_desk.specs.declared.faults.Fault.{Fault}
-use Rattle.client_desk.specs.declared.faults.Fault.TheVariants as fault
 use Rattle.client_desk.specs.declared.outcomes.Outcome.{Outcome}
-use Rattle.client_desk.specs.declared.outcomes.Outcome.TheVariants.{Done}
-use Rattle.client_desk.specs.Answers.{At, ByClient, Lacks, Reads, Refreshes, Rule, tries}
+use Rattle.client_desk.specs.declared.outcomes.Outcome.TheVariants.{Done, Faulty, Number}
+use Rattle.client_desk.specs.declared.sitting.Sitting.{Sitting}
+use Rattle.client_desk.specs.declared.sitting.Sitting.TheVariants as sits
+use Rattle.client_desk.specs.Answers.{Asks, AsksAs, At, ByClient, Lacks, Reads, ReadsBy, ReadsKept, Refreshes, Rule}
+use Rattle.client_desk.specs.Answers.{TellsMoment, TellsMomentAs, absent, read_by, tries}
 use Rattle.client_desk.specs.Inside.Reading.{MayRead}
 use Rattle.client_desk.specs.Places.{PlaceState, with_client}
+use Rattle.client_desk.specs.Sitting.{client_of, reading_of}
 use Rattle.client_desk.specs.Told.{Told, dry, id_told, tells, told, told_alone}
 
 -- by what is there, and where it isn't
@@ -23,26 +30,131 @@ pub at_some : {X : Type 0} (o : Option X) (none : Fault) (rule : X → Rule) (x 
     (a : PlaceState) → o ≡ Some x → rule x b t a → At o none rule b t a
 at_some o none rule x b t a is done = subst (λ p. At p none rule b t a) (sym is) done
 
+-- ---- where no client sits
+
+pub no_client : {M : Type 0} (s : Sitting M) → ((x : _) → s ≡ sits.Client x → ⊥) → client_of s ≡ None
+no_client (sits.Nobody x) other = refl
+no_client (sits.Client x) other = absurd (other x refl)
+no_client (sits.Asking x) other = refl
+no_client (sits.Reading x) other = refl
+no_client sits.Moving other = refl
+
+pub by_nobody : (rule : ClientState → Rule) (v b : PlaceState) (f : Fault) (bytes : Bytes) → v ≡ b → v.client ≡ None
+    → f ≡ absent v.reading → bytes ≡ [] → ByClient rule b (told (Faulty f) bytes) v
+by_nobody rule v b f bytes same none is empty =
+    let t = told (Faulty f) bytes in
+    subst (λ s. ByClient rule s t v) same
+    (subst (λ o. At o (absent v.reading) rule v t v) (sym none)
+    (ap (λ e. told (Faulty e) bytes) is ∙ ap (told (Faulty (absent v.reading))) empty, refl))
+
+-- ---- queries, of a place that is seen so
+
+-- where no reading is open
+asks_none : {X : Type 0} (tell : X → Told) (right : ClientState → State → X) (means : Meanings) (b : PlaceState)
+    (t : Told) (a : PlaceState) → b.reading ≡ None → ByClient (λ c. Reads tell (right c) means c) b t a
+    → Asks tell right means b t a
+asks_none tell right means b t a none is = subst (λ o. AsksAs tell right means o b t a) (sym none) is
+
 -- what a client tells that read
-pub read_told : {X : Type 0} (tell : X → Told) (right : State → X) (means : Meanings) (b : PlaceState)
-    (client next : ClientState) (t : Told) → b.client ≡ Some client → MayRead tell right means client t next
-    → Lacks b t (with_client next b) ⊎ ByClient (Reads tell right means) b t (with_client next b)
-read_told tell right means b client next t is (inl lack) = inl (record {
+asks_client : {X : Type 0} (tell : X → Told) (right : ClientState → State → X) (means : Meanings) (b : PlaceState)
+    (client next : ClientState) (t : Told) → b.client ≡ Some client → b.reading ≡ None
+    → ReadsBy tell (right client) means client t next → Asks tell right means b t (with_client next b)
+asks_client tell right means b client next t is none read =
+    asks_none tell right means b t (with_client next b) none
+    (at_some b.client (absent b.reading) (λ c. Reads tell (right c) means c) client b t (with_client next b) is
+    (next, read, refl))
+
+pub asked_client : {X : Type 0} (tell : X → Told) (right : ClientState → State → X) (means : Meanings)
+    (v b : PlaceState) (client next : ClientState) (t : Told) → v ≡ b → v.client ≡ Some client → v.reading ≡ None
+    → ReadsBy tell (right client) means client t next → Asks tell right means b t (with_client next v)
+asked_client tell right means v b client next t same is none read =
+    subst (λ s. Asks tell right means s t (with_client next v)) same
+    (asks_client tell right means v client next t is none read)
+
+-- or memory was refused
+may_ask : {X : Type 0} (tell : X → Told) (right : ClientState → State → X) (means : Meanings) (b : PlaceState)
+    (client next : ClientState) (t : Told) → b.client ≡ Some client → b.reading ≡ None
+    → MayRead tell (right client) means client t next
+    → Lacks b t (with_client next b) ⊎ Asks tell right means b t (with_client next b)
+may_ask tell right means b client next t is none (inl lack) = inl (record {
   told = lack.0;
   left = inr (record { old = client; new = next; sits = is; stays = lack.1; left = refl });
 })
-read_told tell right means b client next t is (inr read) =
-    inr (at_some b.client fault.NoClient (Reads tell right means) client b t (with_client next b) is (next, read, refl))
+may_ask tell right means b client next t is none (inr read) =
+    inr (asks_client tell right means b client next t is none read)
 
--- ---- calls of the client that sits there
+pub may_client : {X : Type 0} (tell : X → Told) (right : ClientState → State → X) (means : Meanings)
+    (v b : PlaceState) (client next : ClientState) (t : Told) → v ≡ b → v.client ≡ Some client → v.reading ≡ None
+    → MayRead tell (right client) means client t next
+    → Lacks b t (with_client next v) ⊎ Asks tell right means b t (with_client next v)
+may_client tell right means v b client next t same is none read =
+    subst (λ s. Lacks s t (with_client next v) ⊎ Asks tell right means s t (with_client next v)) same
+    (may_ask tell right means v client next t is none read)
 
--- what it tells that read, of a place that is seen so
-pub read_at : {X : Type 0} (tell : X → Told) (right : State → X) (means : Meanings) (v b : PlaceState)
-    (client next : ClientState) (t : Told) → v ≡ b → v.client ≡ Some client → MayRead tell right means client t next
-    → Lacks b t (with_client next v) ⊎ ByClient (Reads tell right means) b t (with_client next v)
-read_at tell right means v b client next t same is read =
-    subst (λ s. Lacks s t (with_client next v) ⊎ ByClient (Reads tell right means) s t (with_client next v)) same
-    (read_told tell right means v client next t is read)
+-- what an open reading tells
+pub asked_reader : {X : Type 0} (tell : X → Told) (right : ClientState → State → X) (means : Meanings)
+    (v b : PlaceState) (reader : ClientState) (t : Told) → v ≡ b → v.reading ≡ Some reader
+    → ReadsKept tell (right reader) reader t → Asks tell right means b t v
+asked_reader tell right means v b reader t same is kept =
+    subst (λ s. Asks tell right means s t v) same
+    (subst (λ o. AsksAs tell right means o v t v) (sym is) (kept, refl))
+
+-- where neither is there
+pub asked_nobody : {X : Type 0} (tell : X → Told) (right : ClientState → State → X) (means : Meanings)
+    (v b : PlaceState) (f : Fault) (bytes : Bytes) → v ≡ b → v.client ≡ None → v.reading ≡ None
+    → f ≡ absent v.reading → bytes ≡ [] → Asks tell right means b (told (Faulty f) bytes) v
+asked_nobody tell right means v b f bytes same none closed is empty =
+    let t = told (Faulty f) bytes in
+    subst (λ s. Asks tell right means s t v) same
+    (asks_none tell right means v t v closed
+    (by_nobody (λ c. Reads tell (right c) means c) v v f bytes refl none is empty))
+
+-- who neither is a client nor has a reading open
+pub neither : {M : Type 0} (s : Sitting M) → ((x : _) → s ≡ sits.Client x → ⊥) → ((x : _) → s ≡ sits.Reading x → ⊥)
+    → (client_of s ≡ None) × (reading_of s ≡ None)
+neither (sits.Nobody x) client reading = (refl, refl)
+neither (sits.Client x) client reading = absurd (client x refl)
+neither (sits.Asking x) client reading = (refl, refl)
+neither (sits.Reading x) client reading = absurd (reading x refl)
+neither sits.Moving client reading = (refl, refl)
+
+-- ---- the moment, of a place that is seen so
+
+pub moment_client : (means : Meanings) (v b : PlaceState) (client next : ClientState) (n : ℕ) → v ≡ b
+    → v.client ≡ Some client → v.reading ≡ None
+    → IsPoint means client.seat.mark next.seat.mark None next.seat.mark.log → HasLooked ⊤ client.seat next.seat
+    → next.seat.view ≡ client.seat.view → IsSameClient client next × (next.last ≡ client.last)
+    → n ≡ moment next.seat.mark.log → TellsMomentAs means b.reading b (told_alone (Number n)) (with_client next v)
+moment_client means v b client next n same is none point looked view kept tells =
+    let t = told_alone (Number n) in let after = with_client next v in
+    subst (λ (s : PlaceState). TellsMomentAs means s.reading s t after) same
+    (subst (λ o. TellsMomentAs means o v t after) (sym none)
+    (at_some v.client (absent v.reading) (TellsMoment means) client v t after is (record {
+      next = next;
+      point = point;
+      looked = looked;
+      view = view;
+      same = kept;
+      told = ap (λ m. told_alone (Number m)) tells;
+      left = refl;
+    })))
+
+pub moment_reader : (means : Meanings) (v b : PlaceState) (reader : ClientState) (n : ℕ) → v ≡ b
+    → v.reading ≡ Some reader → n ≡ moment reader.seat.mark.log
+    → TellsMomentAs means b.reading b (told_alone (Number n)) v
+moment_reader means v b reader n same is tells =
+    let t = told_alone (Number n) in
+    subst (λ (s : PlaceState). TellsMomentAs means s.reading s t v) same
+    (subst (λ o. TellsMomentAs means o v t v) (sym is) (ap (λ m. told_alone (Number m)) tells, refl))
+
+pub moment_nobody : (means : Meanings) (v b : PlaceState) (f : Fault) → v ≡ b → v.client ≡ None → v.reading ≡ None
+    → f ≡ absent v.reading → TellsMomentAs means b.reading b (told_alone (Faulty f)) v
+moment_nobody means v b f same none closed is =
+    let t = told_alone (Faulty f) in
+    subst (λ (s : PlaceState). TellsMomentAs means s.reading s t v) same
+    (subst (λ o. TellsMomentAs means o v t v) (sym closed) (by_nobody (TellsMoment means) v v f [] refl none is refl))
+
+-- ---- replies
 
 -- a reply whose bytes were written
 pub wrote_told : {X A E : Type 0} (tell : X → Told) (right : State → X) (means : Meanings) (client next : ClientState)
@@ -61,6 +173,45 @@ wrote_told tell right means client next x (Ok done) t start mid text empty print
 wrote_told tell right means client next x (Err e) t start mid text empty printed ok err is answer stays =
     inl (err, stays)
 
+-- bytes that were appended are behind those that were there
+pub appended : {A E : Type 0} (written : Result A E) (new old text : Bytes)
+    → new ≡ (if is_ok written then old ++ text else old) → OnOk written (new ≡ old ++ text)
+appended (Ok done) new old text is = is
+appended (Err e) new old text is = tt
+
+-- the reply of an open reading whose bytes were written, or memory was refused
+pub kept_told : {X A E : Type 0} (tell : X → Told) (right : State → X) (reader : ClientState) (x : X)
+    (written : Result A E) (t : Told) (start mid text : Bytes) → start ≡ [] → OnOk written (mid ≡ start ++ text)
+    → IfOk written (λ _. t ≡ told Done mid) → IfErr written (λ _. t ≡ dry) → tell x ≡ told Done text
+    → x ≡ right (read_by reader) → ReadsKept tell right reader t
+kept_told tell right reader x (Ok done) t start mid text empty printed ok err is answer = record {
+  reply = Ok x;
+  answer = answer;
+  refused = tt;
+  told = ok ∙ ap (told Done) (printed ∙ ap (λ s. s ++ text) empty) ∙ sym is;
+}
+kept_told tell right reader x (Err e) t start mid text empty printed ok err is answer = record {
+  reply = Err NoMemory;
+  answer = tt;
+  refused = inl refl;
+  told = err;
+}
+
+-- a refusal of one query is one of another
+pub refused_as : {X Y : Type 0} (means : Meanings) (n : ℕ) (old new : Known) (is_mute : Bool) (e : Refusal)
+    (f : State → X) (g : State → Y) → IsRefused means n old new is_mute e None (λ s. Ok (f s) ≡ Err e)
+    → IsRefused means n old new is_mute e None (λ s. Ok (g s) ≡ Err e)
+refused_as means n old new true e f g is = is
+refused_as means n old new false e f g (log, point, never) = absurd (cc never)
+
+-- bytes that were written, or memory was refused for them
+pub written_told : {A E : Type 0} (written : Result A E) (t : Told) (start mid text : Bytes) → start ≡ []
+    → OnOk written (mid ≡ start ++ text) → IfOk written (λ _. t ≡ told Done mid) → IfErr written (λ _. t ≡ dry)
+    → (t ≡ told Done text) ⊎ (t ≡ dry)
+written_told (Ok done) t start mid text empty printed ok err =
+    inl (ok ∙ ap (told Done) (printed ∙ ap (λ s. s ++ text) empty))
+written_told (Err e) t start mid text empty printed ok err = inr err
+
 -- the client looked for its last id
 pub refreshed : (means : Meanings) (v b : PlaceState) (client next : ClientState) (reply : Result ℕ Refusal)
     (o : Outcome) → v ≡ b → v.client ≡ Some client
@@ -70,7 +221,7 @@ pub refreshed : (means : Meanings) (v b : PlaceState) (client next : ClientState
     → ByClient (Refreshes means) b (told_alone o) (with_client next v)
 refreshed means v b client next reply o same is answer id last refused looks told =
     subst (λ s. ByClient (Refreshes means) s (told_alone o) (with_client next v)) same
-    (at_some v.client fault.NoClient (Refreshes means) client v (told_alone o) (with_client next v) is (record {
+    (at_some v.client (absent v.reading) (Refreshes means) client v (told_alone o) (with_client next v) is (record {
       reply = reply;
       next = next;
       answer = answer;

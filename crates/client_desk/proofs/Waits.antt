@@ -14,8 +14,7 @@ use Rattle.rebase.specs.Clients.{ClientState}
 use Rattle.rebase.specs.Replies.{Replied, ended, id}
 use Rattle.rebase.specs.declared.calls.Call.{Call as Changing}
 use Rattle.rebase.proofs.CallLemmas.{why_told}
-use Rattle.client_desk.specs.declared.faults.Fault.TheVariants as fault
-use Rattle.client_desk.specs.Answers.{ByClient, Rule}
+use Rattle.client_desk.specs.Answers.{ByClient, Rule, absent}
 use Rattle.client_desk.specs.Places.{PlaceState}
 use Rattle.client_desk.specs.Told.{Told, ended_told, id_told, replied_told, tells}
 use Rattle.client_desk.proofs.Telling.{at_some}
@@ -58,4 +57,4 @@ cause_told f means c made r old new is = why_told f (HasCause means ⊤ c.last (
 pub by_this : (rule : ClientState → Rule) (v b : PlaceState) (client : ClientState) (t : Told) (new : PlaceState)
     → v ≡ b → v.client ≡ Some client → rule client v t new → ByClient rule b t new
 by_this rule v b client t new same is done =
-    subst (λ s. ByClient rule s t new) same (at_some v.client fault.NoClient rule client v t new is done)
+    subst (λ s. ByClient rule s t new) same (at_some v.client (absent v.reading) rule client v t new is done)

@@ -10,7 +10,7 @@ use Rattle.rebase.specs.Clients.{ClientState, Grouped, Stays}
 use Rattle.rebase.specs.Watching.{Watched}
 use Rattle.client_desk.specs.declared.calls.Keep.{Keep}
 use Rattle.client_desk.specs.declared.faults.Fault.TheVariants as fault
-use Rattle.client_desk.specs.Answers.{At, ByClient, Lacks, Polls, Rule, Watches}
+use Rattle.client_desk.specs.Answers.{At, ByClient, Lacks, Polls, Rule, Watches, absent}
 use Rattle.client_desk.specs.Inside.Keeping.{AreOf, IsPolled, KeepsWatch}
 use Rattle.client_desk.specs.Kept.{kept_at, room_for}
 use Rattle.client_desk.specs.Places.{PlaceState, with_client, with_watches}
@@ -43,7 +43,8 @@ watched_here : (keep : Keep) (scan : Scan) (v : PlaceState) (client : ClientStat
     → Lacks (record v { watches = room_for keep v.watches }) t (record v { watches = new })
     ⊎ ByClient (WatchesThere keep scan) v t (record v { watches = new })
 watched_here keep scan v client t new is (inl (n, told, kept)) =
-    inr (at_some v.client fault.NoClient (WatchesThere keep scan) client v t (record v { watches = new }) is (record {
+    inr (at_some v.client (absent v.reading) (WatchesThere keep scan) client v t (record v { watches = new }) is
+    (record {
       number = n;
       watches = new;
       where_ = kept.where_;
@@ -104,7 +105,7 @@ polled_here means v client next n watch new t is there (inr (lack, kept)) (inl s
     })
 polled_here means v client next n watch new t is there (inl (reply, answer, refused, told, kept)) (inl stays) =
     let after = with_watches next (slice_set v.watches n (Some new)) v in
-    inr (at_some v.client fault.NoClient (PollsAt means n) client v t after is
+    inr (at_some v.client (absent v.reading) (PollsAt means n) client v t after is
     (at_some (kept_at v.watches n) fault.NoWatch (λ w. Polls means client n w) watch v t after there (record {
       reply = reply;
       next = next;

@@ -2,20 +2,27 @@
 --
 -- A client's own call is made, as `rebase` says it, and its reply is told. Where nobody sits there, or a number names
 -- nothing, that is told, and the place is as it was.
-use Rattle.std.specs.Prelude.{ℕ, ◌≡◌, ◌⊎◌, ⊤, List, Option, Some, None, Result, Ok, Err}
+use Rattle.std.specs.Prelude.{ℕ, ◌≡◌, ◌⊎◌, ⊤, List, drop, Option, Some, None, Result, Ok, Err}
 use Rattle.std.specs.Prelude.{IfErr, IfOk, slice_set}
+use Rattle.std.specs.FinMap as finite
 use Rattle.group_history.specs.declared.refusals.Refusal.{Refusal}
 use Rattle.group_history.specs.declared.scans.Scan.{Scan}
 use Rattle.group_history.specs.Map.{Bytes}
 use Rattle.group_history.specs.Meaning.{Meanings}
 use Rattle.group_history.specs.Queries.{get_at, has_at, is_empty_at, view_rows}
+use Rattle.group_history.specs.Record.{after}
+use Rattle.group_history.specs.Scans.{rows_of}
 use Rattle.group_history.specs.State.{State, last_id}
+use Rattle.head_word.specs.Books.{record_of}
+use Rattle.head_word.specs.Laws.{moment}
 use Rattle.push_body.specs.Bodies.{push_text}
-use Rattle.answered.specs.Answered.{IsAnswered, IsLeft, IsLinearized, no_change}
+use Rattle.rebase.specs.Counting.{Counts, Found, SlotCounts}
+use Rattle.answered.specs.Answered.{IsAnswered, IsLeft, IsLinearized, IsPoint, no_change}
 use Rattle.chunk_slots.specs.Seats.{IsIdle}
 use Rattle.commit_graph.specs.Seats.{HasLooked, Seated}
 use Rattle.group_steps.specs.Missing.{IsMissedOrDry, IsStoreRefusal}
-use Rattle.rebase.specs.Clients.{ClientState, Looks, Rests, Stays}
+use Rattle.rebase.specs.Clients.{ClientState, IsSameClient, Looks, Rests, Stays}
+use Rattle.rebase.specs.Clients.{Reads as Holds}
 use Rattle.rebase.specs.Queries.{asked_at, Asked as Begun}
 use Rattle.rebase.specs.Watching.{Watched, poll_at, watch_after}
 use Rattle.rebase.specs.declared.tickets.Ticket.{Ticket}
@@ -29,9 +36,10 @@ use Rattle.client_desk.specs.declared.outcomes.Outcome.TheVariants.{Done, Faulty
 use Rattle.client_desk.specs.declared.faults.Fault.TheVariants as fault
 use Rattle.client_desk.specs.declared.calls.Keep.{Keep}
 use Rattle.client_desk.specs.Kept.{IsKeptAt, IsNumberFor, kept_at, room_for, without}
-use Rattle.client_desk.specs.Places.{PlaceState, free_place, sat, unsat, with_client, with_tickets, with_watches}
+use Rattle.client_desk.specs.Places.{PlaceState, client_at, free_place, read_through, sat, unsat, with_client}
+use Rattle.client_desk.specs.Places.{with_reading, with_tickets, with_watches}
 use Rattle.client_desk.specs.Told.{Told, bytes_told, cookie_told, dry, id_told, is_told, pending_told}
-use Rattle.client_desk.specs.Told.{polled_told, rows_told, tells, told, told_alone, value_told}
+use Rattle.client_desk.specs.Told.{polled_told, rows_told, slots_told, tells, told, told_alone, value_told}
 
 -- how often a call begins anew that others are in the way of
 abbrev pub tries : ℕ
@@ -52,9 +60,22 @@ abbrev pub At : {X : Type 0} → Option X → Fault → (X → Rule) → Rule
 At (Some x) none rule = rule x
 At None none rule = Tells (Faulty none)
 
+-- why no client can be called: it has a reading open, or there is none
+abbrev pub absent : Option ClientState → Fault
+absent (Some reader) = fault.Reads
+absent None = fault.NoClient
+
 -- the client that sits there
 abbrev pub ByClient : (ClientState → Rule) → Rule
-ByClient rule before = At before.client fault.NoClient rule before
+ByClient rule before = At before.client (absent before.reading) rule before
+
+-- the client that has a reading open
+abbrev pub ByReader : (ClientState → Rule) → Rule
+ByReader rule before = At before.reading fault.NotRead rule before
+
+-- the client of the place, also where it has a reading open
+abbrev pub ByAny : (ClientState → Rule) → Rule
+ByAny rule before = At (client_at before) fault.NoClient rule before
 
 -- a client looked, and did nothing else
 pub record HasOnlyLooked (before after : PlaceState) : Type 0 where
@@ -98,7 +119,8 @@ Sits means uuid before =
     At before.seat fault.InUse (λ seat b t a. SitsDown uuid means seat b t a ⊎ IsTurnedAway seat b t a)
     before
 
--- The client left, and this is its seat: nothing else was seen or done there, and it has no pin and no taken slot.
+-- The client left, and this is its seat: nothing else was seen or done there, and it has no pin and no taken slot, also
+-- where it had a reading open.
 pub record HasLeft (client : ClientState) (seat : Seated) : Type 0 where
   pub looked : HasLooked ⊤ client.seat seat
   pub mark : seat.mark ≡ client.seat.mark
@@ -127,6 +149,73 @@ abbrev pub Reads : {X : Type 0} → (X → Told) → (State → X) → Meanings 
 Reads tell right means client before t after =
     (next : ClientState) × ReadsBy tell right means client t next × (after ≡ with_client next before)
 
+-- the state at the moment of an open reading
+abbrev pub read_by : ClientState → State
+read_by reader = after (record_of reader.seat.mark.log)
+
+-- the reply of an open reading is right at its moment
+pub record ReadsKept {X : Type 0} (tell : X → Told) (right : State → X) (reader : ClientState) (t : Told) : Type 0 where
+  pub reply : Result X Refusal
+  pub answer : IfOk reply (λ x. x ≡ right (read_by reader))
+  pub refused : IfErr reply (IsMissedOrDry ⊤)
+  pub told : t ≡ tells tell reply
+
+-- A query: by the reading that is open, which changes nothing; or by the client.
+abbrev pub AsksAs : {X : Type 0} → (X → Told) → (ClientState → State → X) → Meanings → Option ClientState → Rule
+AsksAs tell right means (Some reader) before t after = ReadsKept tell (right reader) reader t × (after ≡ before)
+AsksAs tell right means None before t after = ByClient (λ c. Reads tell (right c) means c) before t after
+
+abbrev pub Asks : {X : Type 0} → (X → Told) → (ClientState → State → X) → Meanings → Rule
+Asks tell right means before = AsksAs tell right means before.reading before
+
+-- The client looks where the head is, and does nothing else. The number of that moment is told.
+pub record TellsMoment (means : Meanings) (client : ClientState) (before : PlaceState) (t : Told)
+    (after : PlaceState) : Type 0
+  where
+    pub next : ClientState
+    pub point : IsPoint means client.seat.mark next.seat.mark None next.seat.mark.log
+    pub looked : HasLooked ⊤ client.seat next.seat
+    pub view : next.seat.view ≡ client.seat.view
+    pub same : IsSameClient client next × (next.last ≡ client.last)
+    pub told : t ≡ id_told (moment next.seat.mark.log)
+    pub left : after ≡ with_client next before
+
+-- or that of the reading that is open
+abbrev pub TellsMomentAs : Meanings → Option ClientState → Rule
+TellsMomentAs means (Some reader) before t after = (t ≡ id_told (moment reader.seat.mark.log)) × (after ≡ before)
+TellsMomentAs means None before t after = ByClient (TellsMoment means) before t after
+
+-- A reading begins: its moment is a point of the call, and its pin is held.
+pub record BeginsReading (means : Meanings) (client : ClientState) (before : PlaceState) (t : Told)
+    (after : PlaceState) : Type 0
+  where
+    pub reader : ClientState
+    pub point : IsPoint means client.seat.mark reader.seat.mark None reader.seat.mark.log
+    pub reads : Holds ⊤ tries client reader
+    pub told : t ≡ told_alone Done
+    pub left : after ≡ with_reading reader before
+
+-- or that is refused
+pub record LosesReading (client : ClientState) (before : PlaceState) (t : Told) (after : PlaceState) : Type 0 where
+  pub next : ClientState
+  pub refusal : Refusal
+  pub missed : IsStoreRefusal ⊤ refusal
+  pub stays : Stays ⊤ client next
+  pub told : t ≡ told_alone (Refused refusal)
+  pub left : after ≡ with_client next before
+
+abbrev pub MayBeginReading : Meanings → ClientState → Rule
+MayBeginReading means client before t after =
+    BeginsReading means client before t after ⊎ LosesReading client before t after
+
+-- The reading ends: its pin is taken away, and its client sits there and knows what it knew.
+pub record EndsReading (reader : ClientState) (before : PlaceState) (t : Told) (after : PlaceState) : Type 0 where
+  pub client : ClientState
+  pub stays : Stays ⊤ reader client
+  pub mark : client.seat.mark ≡ reader.seat.mark
+  pub told : t ≡ told_alone Done
+  pub left : after ≡ read_through client before
+
 -- The client looks for its last id, which is told, and is its own then.
 pub record Refreshes (means : Meanings) (client : ClientState) (before : PlaceState) (t : Told)
     (after : PlaceState) : Type 0
@@ -141,6 +230,21 @@ pub record Refreshes (means : Meanings) (client : ClientState) (before : PlaceSt
     pub looks : Looks ⊤ client next
     pub told : t ≡ tells id_told reply
     pub left : after ≡ with_client next before
+
+-- The client looks at each slot of the group once, each as it was at some time of the call, and keeps its pin. How many
+-- it found free is told, or memory was refused for that.
+pub record CountsBy (client : ClientState) (t : Told) (next : ClientState) : Type 0 where
+  pub counts : SlotCounts
+  pub counted : Counts (Found client.seat.view next.seat.view) client.group.group.table.sizes counts
+  pub looked : HasLooked ⊤ client.seat next.seat
+  pub pin : next.seat.view.pin ≡ client.seat.view.pin
+  pub same : IsSameClient client next × (next.last ≡ client.last)
+  pub told : (t ≡ slots_told counts) ⊎ (t ≡ dry)
+
+-- nothing else of the place changes
+abbrev pub CountsFree : ClientState → Rule
+CountsFree client before t after =
+    (next : ClientState) × CountsBy client t next × (after ≡ with_client next before)
 
 -- A pull is begun: its request is told, and the number under which its ticket is kept.
 pub record Keeps (keep : Keep) (asked : Begun) (next : ClientState) (before : PlaceState) (t : Told)
@@ -184,6 +288,11 @@ pub record Watches (keep : Keep) (scan : Scan) (client : ClientState) (before : 
   pub told : t ≡ told_alone (Number number)
   pub left : after ≡ record before { watches = watches }
 
+-- the watch of a number is given up
+abbrev pub Unwatches : ℕ → Watched → Rule
+Unwatches n kept before t after = (t ≡ told_alone Done)
+    × (after ≡ record before { watches = without before.watches n })
+
 -- the watch of a number is polled
 pub record Polls (means : Meanings) (client : ClientState) (n : ℕ) (watch : Watched) (before : PlaceState) (t : Told)
     (after : PlaceState) : Type 0 where
@@ -206,20 +315,27 @@ made_room other p = p
 
 -- a query
 abbrev pub AnswersReading : Meanings → Call → Rule
-AnswersReading means (call.Get key) = ByClient (Reads value_told (λ s. get_at means s key.now) means)
-AnswersReading means (call.Has key) = ByClient (Reads is_told (λ s. has_at means s key.now) means)
-AnswersReading means (call.Scan scan) = ByClient (Reads rows_told (λ s. view_rows means s scan.now) means)
-AnswersReading means call.Empty = ByClient (Reads is_told (λ s. is_empty_at means s) means)
-AnswersReading means call.Pending = ByClient (Reads pending_told (λ s. s.pending) means)
-AnswersReading means call.Cookie = ByClient (Reads cookie_told (λ s. s.cookie) means)
-AnswersReading means call.Closed = ByClient (Reads is_told (λ s. s.closed) means)
-AnswersReading means call.Push = ByClient (λ c. Reads bytes_told (λ s. push_text c.group.identity s.pending) means c)
+AnswersReading means (call.Get key) = Asks value_told (λ c s. get_at means s key.now) means
+AnswersReading means (call.Has key) = Asks is_told (λ c s. has_at means s key.now) means
+AnswersReading means (call.Scan scan) = Asks rows_told (λ c s. view_rows means s scan.now) means
+AnswersReading means (call.PulledGet key) = Asks value_told (λ c s. finite.get s.pulled key.now) means
+AnswersReading means (call.PulledScan scan) = Asks rows_told (λ c s. rows_of scan.now s.pulled) means
+AnswersReading means call.Empty = Asks is_told (λ c s. is_empty_at means s) means
+AnswersReading means call.Pending = Asks pending_told (λ c s. s.pending) means
+AnswersReading means call.Cookie = Asks cookie_told (λ c s. s.cookie) means
+AnswersReading means call.Closed = Asks is_told (λ c s. s.closed) means
+AnswersReading means (call.Push skip) =
+    Asks bytes_told (λ c s. push_text c.group.identity (drop skip s.pending)) means
+AnswersReading means call.Moment = λ b. TellsMomentAs means b.reading b
 AnswersReading means other = Tells (Faulty fault.NotAsked)
 
 -- and what a client does beside queries and changes
 abbrev pub AnswersLooking : Meanings → Call → Rule
 AnswersLooking means (call.Sit id) = Sits means id.now
-AnswersLooking means call.Leave = ByClient Leaves
+AnswersLooking means call.Leave = ByAny Leaves
+AnswersLooking means call.BeginRead = ByClient (MayBeginReading means)
+AnswersLooking means call.EndRead = ByReader EndsReading
+AnswersLooking means call.Slots = ByClient CountsFree
 AnswersLooking means call.Refresh = ByClient (Refreshes means)
 AnswersLooking means (call.Begin keep) = ByClient (λ c b. Begins keep means c (made_room (call.Begin keep) b))
 AnswersLooking means (call.Forget n) = λ b. At (kept_at b.tickets n) fault.NoTicket (Forgets n) b
@@ -227,4 +343,5 @@ AnswersLooking means (call.Watch keep scan) = ByClient (λ c b. Watches keep sca
     (made_room (call.Watch keep scan) b))
 AnswersLooking means (call.Poll n) = ByClient (λ c b. At (kept_at b.watches n) fault.NoWatch
     (λ watch. Polls means c n watch) b)
+AnswersLooking means (call.Unwatch n) = λ b. At (kept_at b.watches n) fault.NoWatch (Unwatches n) b
 AnswersLooking means other = AnswersReading means other

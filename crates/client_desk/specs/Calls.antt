@@ -22,6 +22,8 @@ AnswersCalm has means other = AnswersLooking means other
 abbrev pub MayLack : Call → Type 0
 MayLack (call.Get key) = ⊤
 MayLack (call.Scan scan) = ⊤
+MayLack (call.PulledGet key) = ⊤
+MayLack (call.PulledScan scan) = ⊤
 MayLack call.Pending = ⊤
 MayLack call.Cookie = ⊤
 MayLack (call.Begin keep) = ⊤
@@ -32,6 +34,7 @@ MayLack other = ⊥
 abbrev pub MayLackAsked : Call → Type 0
 MayLackAsked call.AskedName = ⊤
 MayLackAsked call.AskedArgs = ⊤
+MayLackAsked call.AskedRun = ⊤
 MayLackAsked other = ⊥
 
 -- a call is answered so, or memory was refused: where no run is asked for, and where one is

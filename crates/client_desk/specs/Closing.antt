@@ -14,9 +14,10 @@ abbrev pub IsBack : (Seated → Type 0) → Option Seated → Type 0
 IsBack is (Some seat) = is seat
 IsBack is None = ⊥
 
--- A place is closed: its seat, if nobody sits there; the client's, which left; or that of the client whose change was
--- given up.
+-- A place is closed: its seat, if nobody sits there; the client's, which left, also where it had a reading open; or
+-- that of the client whose change was given up.
 pub record Closes (means : Meanings) (place : PlaceState) (seat : Option Seated) : Type 0 where
   pub free : IfSome place.seat (λ was. IsBack (λ s. s ≡ was) seat)
   pub left : IfSome place.client (λ client. IsBack (HasLeft client) seat)
+  pub read : IfSome place.reading (λ client. IsBack (HasLeft client) seat)
   pub gave : IfSome place.asking (λ asking. IsBack (HasLeftAsked means asking) seat)

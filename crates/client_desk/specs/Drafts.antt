@@ -26,8 +26,8 @@ use Rattle.client_desk.specs.declared.outcomes.Outcome.TheVariants as outcome
 use Rattle.client_desk.specs.Answers.{At, HasLeft, Rule, Tells, tries}
 use Rattle.client_desk.specs.Places.{PlaceState, back_at, free_place, with_asking}
 use Rattle.client_desk.specs.Runs.{AsksAtEnd, AsksFor, AsksNext, EndsRuns, GaveUp, IsRunTold}
-use Rattle.client_desk.specs.Told.{Told, bytes_told, is_told, named_told, replied_told, rows_told, tells, told_alone}
-use Rattle.client_desk.specs.Told.{value_told}
+use Rattle.client_desk.specs.Told.{Told, bytes_told, is_told, named_told, replied_told, rows_told, run_told, tells}
+use Rattle.client_desk.specs.Told.{told_alone, value_told}
 
 -- ---- changes that may ask for a run
 
@@ -134,6 +134,7 @@ HasRunAsMeant has means place other = ⊤
 abbrev pub AnswersDraft : Call → Rule
 AnswersDraft call.AskedName = ByRun (λ a. TellsThis (named_told a.mutation))
 AnswersDraft call.AskedArgs = ByRun (λ a. TellsThis (bytes_told a.mutation.args))
+AnswersDraft call.AskedRun = ByRun (λ a. TellsThis (run_told a.mutation))
 AnswersDraft (call.DraftGet key) = ByRun (ReadsDraft value_told (λ m. finite.get m key.now))
 AnswersDraft (call.DraftHas key) = ByRun (ReadsDraft is_told (λ m. finite.contains_key m key.now))
 AnswersDraft (call.DraftScan scan) = ByRun (ReadsDraft rows_told (rows_of scan.now))

@@ -36,6 +36,8 @@ fault_place fault.Asks = 107
 fault_place fault.NoClient = 108
 fault_place fault.NoPlace = 109
 fault_place fault.NotAsked = 110
+fault_place fault.Reads = 111
+fault_place fault.NotRead = 112
 
 -- tools/refusals: end
 

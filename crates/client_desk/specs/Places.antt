@@ -1,18 +1,20 @@
 -- How a place stands. This project's own words.
 use Rattle.std.specs.Prelude.{[], List, Option, Some, None}
+use Rattle.std.specs.Option.{option_or}
 use Rattle.commit_graph.specs.Seats.{Seated}
 use Rattle.rebase.specs.Clients.{ClientState, Grouped}
 use Rattle.rebase.specs.Running.{UnderWay}
 use Rattle.rebase.specs.Watching.{Watched}
 use Rattle.rebase.specs.declared.tickets.Ticket.{Ticket}
 
--- A place at a group: the seat while nobody sits there, the client that sits there, or the change of that client that
--- asks for a run; and what the client keeps under numbers: tickets, and watches.
+-- A place at a group: the seat while nobody sits there, the client that sits there, the change of that client that asks
+-- for a run, or the client that has a reading open; and what the client keeps under numbers: tickets, and watches.
 pub record PlaceState : Type 0 where
   pub group : Grouped
   pub seat : Option Seated
   pub client : Option ClientState
   pub asking : Option UnderWay
+  pub reading : Option ClientState
   pub tickets : List (Option Ticket)
   pub watches : List (Option Watched)
 
@@ -23,6 +25,7 @@ free_place group seat = record {
   seat = Some seat;
   client = None;
   asking = None;
+  reading = None;
   tickets = [];
   watches = [];
 }
@@ -53,3 +56,15 @@ with_tickets c ts p = record p { client = Some c; tickets = ts }
 
 abbrev pub with_watches : ClientState → List (Option Watched) → PlaceState → PlaceState
 with_watches c ws p = record p { client = Some c; watches = ws }
+
+-- it has a reading open
+abbrev pub with_reading : ClientState → PlaceState → PlaceState
+with_reading r p = record p { client = None; reading = Some r }
+
+-- which has ended
+abbrev pub read_through : ClientState → PlaceState → PlaceState
+read_through c p = record p { client = Some c; reading = None }
+
+-- the client of the place, also where it has a reading open
+abbrev pub client_at : PlaceState → Option ClientState
+client_at p = option_or p.client p.reading

@@ -1,5 +1,5 @@
 -- What a call of a place came to, and how the reply of a client is told.
-use Rattle.std.specs.Prelude.{ℕ, Bool, List, [], map, Option, Some, None, Result, Ok, Err}
+use Rattle.std.specs.Prelude.{ℕ, ◌+◌, Bool, List, [], ◌∷◌, map, decimal, Option, Some, None, Result, Ok, Err}
 use Rattle.group_history.specs.declared.refusals.Refusal.{Refusal}
 use Rattle.group_history.specs.declared.refusals.Refusal.TheVariants.{NoMemory}
 use Rattle.group_history.specs.declared.responses.Ended.{Ended}
@@ -9,12 +9,14 @@ use Rattle.group_history.specs.declared.mutations.Reason.{Reason}
 use Rattle.group_history.specs.declared.mutations.Reason.TheVariants.{Initial, Rebase}
 use Rattle.group_history.specs.Cookies.{Cookie}
 use Rattle.group_history.specs.Map.{Bytes}
+use Rattle.rebase.specs.Counting.{SlotCounts}
 use Rattle.rebase.specs.Replies.{Replied}
 use Rattle.rebase.specs.Replies as replied
 use Rattle.rebase.specs.declared.watching.Polled.{Polled}
 use Rattle.rebase.specs.declared.watching.Polled.TheVariants as polled
 use Rattle.client_desk.specs.declared.outcomes.Outcome.{Outcome}
 use Rattle.client_desk.specs.declared.outcomes.Outcome.TheVariants.{Done, Number, Nothing, Is, Refused}
+use Rattle.push_body.specs.Bodies.{mutation_text}
 use Rattle.push_body.specs.Rows.{array_text, pending_row, row_text}
 
 -- what a call told: what it came to, and bytes
@@ -53,6 +55,14 @@ cookie_told c = told Done c.text
 abbrev pub bytes_told : Bytes → Told
 bytes_told bytes = told Done bytes
 
+-- of a count: how many slots are free for a mutation, how many for a pull that leaves nothing pending, and how many
+-- were let go and not given since
+abbrev pub free_slots : SlotCounts → List ℕ
+free_slots c = c.ordinary_free ∷ (c.ordinary_free + c.reserved_free) ∷ c.retired ∷ []
+
+abbrev pub slots_told : SlotCounts → Told
+slots_told c = told Done (array_text (map decimal (free_slots c)))
+
 -- a reply, or its refusal
 abbrev pub tells : {X : Type 0} → (X → Told) → Result X Refusal → Told
 tells f (Ok x) = f x
@@ -80,6 +90,10 @@ reason_number Rebase = 1
 
 abbrev pub named_told : Mutation → Told
 named_told x = told (Number (reason_number x.reason)) x.name
+
+-- or all of it: the mutation as a push lists it
+abbrev pub run_told : Mutation → Told
+run_told x = told (Number (reason_number x.reason)) (mutation_text x)
 
 -- memory was refused
 abbrev pub dry : Told

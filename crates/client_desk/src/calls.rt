@@ -32,8 +32,20 @@ pub enum Call<'a> {
     Cookie,
     /// Whether the group is closed.
     Closed,
-    /// The body of a push.
-    Push,
+    /// The body of a push, but for the oldest so many pending mutations.
+    Push(usize),
+    /// How many slots are free.
+    Slots,
+    /// The number of the moment: the same number, the same state; a later state, a greater one.
+    Moment,
+    /// What the server last sent at a key.
+    PulledGet(&'a str),
+    /// The rows of a scan of what the server last sent.
+    PulledScan(&'a Scan),
+    /// A reading begins: until it ends, queries are answered as of its moment, and no other call is made.
+    BeginRead,
+    /// It ends.
+    EndRead,
     /// The client's last id is read anew.
     Refresh,
     /// A pull begins, and its ticket is kept.
@@ -48,10 +60,14 @@ pub enum Call<'a> {
     Watch(Keep, &'a Scan),
     /// A watch is polled.
     Poll(usize),
+    /// A watch is given up.
+    Unwatch(usize),
     /// Where a change asks for a run: the name of its mutator, and the reason of the run.
     AskedName,
     /// The arguments of the run.
     AskedArgs,
+    /// All of the run in one: the mutation as a push lists it, and the reason.
+    AskedRun,
     /// The value at a key of the run's map.
     DraftGet(&'a str),
     /// Whether the key is there.

@@ -10,12 +10,13 @@ ghost use Rattle.client_desk.specs.Drafts.{HasRunAsMeant, LeavesAsked, ReadsDraf
 ghost use Rattle.client_desk.specs.Inside.Sitting.{IsStepAt, IsTakenFrom, Stands};
 ghost use Rattle.client_desk.specs.Kept.{kept_at};
 ghost use Rattle.client_desk.specs.Runs.{IsRunTold};
-ghost use Rattle.client_desk.specs.Told.{bytes_told, is_told, named_told, rows_told, told, told_alone, value_told};
+ghost use Rattle.client_desk.specs.Told.{bytes_told, is_told, named_told, rows_told, run_told, told, told_alone};
+ghost use Rattle.client_desk.specs.Told.{value_told};
 
 use crate::calls::Call;
 use crate::drafts::{
     del_drafted, put_drafted, replied_outcome, tell_args, tell_drafted, tell_drafted_rows,
-    tell_is_drafted, tell_name,
+    tell_is_drafted, tell_name, tell_run,
 };
 use crate::faults::Fault;
 use crate::kept::kept_at;
@@ -52,8 +53,9 @@ impl<M: HostRuns> Place<M> {
         let client = match self.take() {
             Sitting::Client(client) => client,
             other => {
+                let absent = other.absent();
                 self.put(other);
-                return Outcome::Faulty(Fault::NoClient);
+                return Outcome::Faulty(absent);
             }
         };
         let Some(ticket) = kept_at(&self.tickets, number) else {
@@ -74,8 +76,9 @@ impl<M: HostRuns> Place<M> {
                 return self.go_on(step);
             }
             other => {
+                let absent = other.absent();
                 self.put(other);
-                return Outcome::Faulty(Fault::NoClient);
+                return Outcome::Faulty(absent);
             }
         }
     }
@@ -101,6 +104,18 @@ impl<M: HostRuns> Place<M> {
             return Outcome::Faulty(Fault::NotAsked);
         };
         tell_args(asking, bytes)
+    }
+
+    // All of the run in one.
+    fn asked_run(&mut self, bytes: &mut Vec<u8>) -> Outcome
+        requires { bytes.old.items ≡ [] }
+        ensures { Lacks self.old (told result bytes.new.items) self.new
+            ⊎ ByRun (λ a. TellsThis (run_told a.mutation)) self.old (told result bytes.new.items) self.new }
+    {
+        let Sitting::Asking(asking) = &self.sitting else {
+            return Outcome::Faulty(Fault::NotAsked);
+        };
+        tell_run(self.alloc, asking, bytes)
     }
 
     fn draft_get(&mut self, key: &str, bytes: &mut Vec<u8>) -> Outcome
@@ -210,6 +225,7 @@ impl<M: HostRuns> Place<M> {
         match call {
             Call::AskedName => self.asked_name(bytes),
             Call::AskedArgs => self.asked_args(bytes),
+            Call::AskedRun => self.asked_run(bytes),
             Call::DraftGet(key) => self.draft_get(key, bytes),
             Call::DraftHas(key) => self.draft_has(key),
             Call::DraftScan(range) => self.draft_scan(range, bytes),

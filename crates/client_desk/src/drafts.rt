@@ -5,16 +5,18 @@ ghost use Rattle.group_history.specs.Scans.{rows_of};
 ghost use Rattle.group_steps.specs.Missing.{map_ok};
 ghost use Rattle.rebase.specs.Replies.{reply_seen};
 ghost use Rattle.client_desk.specs.Drafts.{ReadsMap, WritesMap};
-ghost use Rattle.client_desk.specs.declared.outcomes.Outcome.TheVariants.{Done};
-ghost use Rattle.client_desk.specs.Told.{bytes_told, is_told, named_told, replied_told, rows_told, tells, told};
-ghost use Rattle.client_desk.specs.Told.{told_alone, value_told};
+ghost use Rattle.client_desk.specs.declared.outcomes.Outcome.TheVariants.{Done, Number};
+ghost use Rattle.client_desk.specs.Told.{bytes_told, is_told, named_told, reason_number, replied_told, rows_told};
+ghost use Rattle.client_desk.specs.Told.{run_told, tells, told, told_alone, value_told};
 ghost use Rattle.client_desk.specs.Inside.Drafting.{MayTell};
 
 use crate::outcomes::Outcome;
 use crate::printing::print_rows;
 use crate::reading::wrote;
-use group_history::{Ended, Json, Means, Reason, Refusal, Scan};
+use group_history::{Ended, Json, Means, Mutation, Reason, Refusal, Scan};
+use push_body::mutation_bytes;
 use rebase::{Arena, Asking, Reply};
+use std::alloc::Global;
 
 /// Tells the name of the mutator that is to be run, and for which reason.
 pub(crate) fn tell_name<M: Means + Sync>(
@@ -32,6 +34,32 @@ pub(crate) fn tell_name<M: Means + Sync>(
         bytes.clear();
         return Outcome::Refused(Refusal::NoMemory);
     }
+    reason_outcome(mutation)
+}
+
+/// Tells the run in one: the mutation as a push lists it, and the reason.
+pub(crate) fn tell_run<M: Means + Sync>(
+    alloc: Global,
+    asking: &Asking<M, Arena<M>>,
+    bytes: &mut Vec<u8>,
+) -> Outcome
+    requires { bytes.old.items ≡ [] }
+    ensures { MayTell (run_told asking.now.mutation) (told result bytes.new.items) }
+{
+    let mutation = asking.mutation();
+    match mutation_bytes(alloc, mutation) {
+        Ok(text) => {
+            *bytes = text;
+            reason_outcome(mutation)
+        }
+        Err(_) => Outcome::Refused(Refusal::NoMemory),
+    }
+}
+
+// For which reason a run is asked for.
+fn reason_outcome(mutation: &Mutation) -> Outcome
+    ensures { result ≡ Number (reason_number mutation.now.reason) }
+{
     match mutation.reason {
         Reason::Initial => Outcome::Number(0),
         Reason::Rebase => Outcome::Number(1),

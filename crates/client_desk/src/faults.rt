@@ -28,6 +28,10 @@ pub enum Fault {
     NoPlace,
     /// No change of the place asks for a run.
     NotAsked,
+    /// A reading of the place is open.
+    Reads,
+    /// No reading of the place is open.
+    NotRead,
     // tools/refusals: end
 }
 
@@ -48,6 +52,8 @@ impl Fault {
             Fault::NoClient => -109,
             Fault::NoPlace => -110,
             Fault::NotAsked => -111,
+            Fault::Reads => -112,
+            Fault::NotRead => -113,
             // tools/refusals: end
         }
     }

@@ -2,12 +2,16 @@
 //!
 //! A place is at a group. A client sits down there, makes its calls and leaves; another one may sit there then. What
 //! it keeps from call to call, tickets and watches, has numbers. `place` has what each call does that is no change,
-//! `changes` the others, `waiting` changes that wait for others, `reading` and `drafts` what queries tell, `printing`
-//! and `rows` the texts of rows, `kept` what is kept under numbers.
+//! `queries` those that ask, `readings` how a reading begins and ends, `changes` the others, `waiting` changes that
+//! wait for others; `reading`, `as_of` and `drafts` what queries tell, by the client, by its open reading and by a
+//! run, `printing` and `rows` the texts of rows, `kept` what is kept under numbers.
 //!
 //! What each call may tell, and how it leaves the place, is `specs/Answers.antt`: the client's own call of `rebase` is
 //! made, and its reply is told. No call waits but those of `waiting`: one begins anew 1,000,000 times where others are
 //! in its way.
+//!
+//! While a place has a reading open, queries are answered as of its moment, and no other call is made but that it ends,
+//! or that the client leaves, which ends it too.
 //!
 //! For a run of a mutator that the group hasn't a change asks its caller, which does it on the run's map (`drafts`,
 //! `specs/Drafts.antt`); the place has the change in place of its client meanwhile. That the caller's runs are what
@@ -22,6 +26,7 @@
 //! and its seat is answered (`specs/Closing.antt`).
 #![tactic(auto)]
 
+mod as_of;
 mod calls;
 mod changes;
 mod drafts;
@@ -32,7 +37,9 @@ mod mutators;
 mod outcomes;
 mod place;
 mod printing;
+mod queries;
 mod reading;
+mod readings;
 mod rows;
 mod sitting;
 mod tickets;

@@ -1,29 +1,24 @@
 //! A place at a group, and its calls.
 ghost use Rattle.std.specs.Prelude.{◌≡◌, ◌⊎◌, []};
 ghost use Rattle.std.specs.Arc.{arc_value};
-ghost use Rattle.group_history.specs.Queries.{get_at, has_at, is_empty_at, view_rows};
 ghost use Rattle.commit_graph.specs.Seats.{IsSeatOf};
-ghost use Rattle.push_body.specs.Bodies.{push_text};
 ghost use Rattle.client_desk.specs.declared.calls.Call.TheVariants as kind;
 ghost use Rattle.client_desk.specs.declared.faults.Fault.TheVariants as fault;
-ghost use Rattle.client_desk.specs.Answers.{AnswersLooking, AnswersReading, At, Begins, ByClient, Forgets};
-ghost use Rattle.client_desk.specs.Answers.{Lacks, Leaves, Polls, Reads, Refreshes, Sits, Watches, made_room};
+ghost use Rattle.client_desk.specs.Answers.{AnswersLooking, At, Begins, ByAny, ByClient, CountsFree, Forgets, Lacks};
+ghost use Rattle.client_desk.specs.Answers.{Leaves, Polls, Refreshes, Sits, Unwatches, Watches, made_room};
 ghost use Rattle.client_desk.specs.Calls.{MayLack};
 ghost use Rattle.client_desk.specs.Closing.{Closes};
 ghost use Rattle.client_desk.specs.Inside.Sitting.{CanSit, IsAt, IsLeft, IsTaken, IsTakenFrom, with_sitting};
 ghost use Rattle.client_desk.specs.Kept.{kept_at};
 ghost use Rattle.client_desk.specs.Places.{free_place};
-ghost use Rattle.client_desk.specs.Told.{bytes_told, cookie_told, is_told, pending_told, rows_told, told, told_alone};
-ghost use Rattle.client_desk.specs.Told.{value_told};
+ghost use Rattle.client_desk.specs.Told.{told, told_alone};
 
 use crate::calls::{Call, Keep};
 use crate::faults::Fault;
 use crate::kept::{give_up, make_room};
 use crate::mutators::Hosted;
 use crate::outcomes::{Outcome, id_outcome};
-use crate::reading::{
-    tell_closed, tell_cookie, tell_empty, tell_has, tell_pending, tell_push, tell_rows, tell_value,
-};
+use crate::reading::tell_slots;
 use crate::sitting::Sitting;
 use crate::tickets::keep_reply;
 use crate::watches::{keep_watch, poll_watch};
@@ -58,7 +53,7 @@ impl<M: Hosted> Model for Place<M> {
     ghost use Rattle.client_desk.specs.Inside.Keeping.{AreOf};
     ghost use Rattle.client_desk.specs.Places.{PlaceState};
     ghost use Rattle.client_desk.specs.Runs.{IsAsking};
-    ghost use Rattle.client_desk.specs.Sitting.{asking_of, client_of, seat_of};
+    ghost use Rattle.client_desk.specs.Sitting.{asking_of, client_of, reading_of, seat_of};
 
     ghost Value = { PlaceState };
 
@@ -75,6 +70,7 @@ impl<M: Hosted> Model for Place<M> {
       seat = seat_of p.sitting;
       client = client_of p.sitting;
       asking = asking_of p.sitting;
+      reading = reading_of p.sitting;
       tickets = p.tickets.items;
       watches = p.watches.items;
     } };
@@ -83,6 +79,8 @@ impl<M: Hosted> Model for Place<M> {
         × IfSome (client_of p.sitting) (λ c. (c.group ≡ arc_value p.group)
         × IsSeatOf (arc_value p.group).group c.seat)
         × IfSome (asking_of p.sitting) (IsAsking M.had M.means (arc_value p.group))
+        × IfSome (reading_of p.sitting) (λ c. (c.group ≡ arc_value p.group)
+        × IsSeatOf (arc_value p.group).group c.seat)
         × AreOf (arc_value p.group).group.book p.watches.items };
 }
 
@@ -173,11 +171,15 @@ impl<M: Hosted + Sync> Place<M> {
     }
 
     fn leave(&mut self) -> Outcome
-        ensures { ByClient Leaves self.old (told_alone result) self.new }
+        ensures { ByAny Leaves self.old (told_alone result) self.new }
     {
         match self.take() {
             Sitting::Client(client) => {
                 self.free(client);
+                return Outcome::Done;
+            }
+            Sitting::Reading(reader) => {
+                self.free(reader.end());
                 return Outcome::Done;
             }
             other => {
@@ -187,96 +189,21 @@ impl<M: Hosted + Sync> Place<M> {
         }
     }
 
-    fn get(&mut self, key: &str, bytes: &mut Vec<u8>) -> Outcome
+    fn slots(&mut self, bytes: &mut Vec<u8>) -> Outcome
         requires { bytes.old.items ≡ [] }
-        ensures { Lacks self.old (told result bytes.new.items) self.new
-            ⊎ ByClient (Reads value_told (λ s. get_at M.means s key.now) M.means) self.old
-            (told result bytes.new.items) self.new }
+        ensures { ByClient CountsFree self.old (told result bytes.new.items) self.new }
     {
         let Sitting::Client(client) = &mut self.sitting else {
-            return Outcome::Faulty(Fault::NoClient);
+            return Outcome::Faulty(self.sitting.absent());
         };
-        tell_value(client, key, bytes)
-    }
-
-    fn has(&mut self, key: &str) -> Outcome
-        ensures { ByClient (Reads is_told (λ s. has_at M.means s key.now) M.means) self.old (told_alone result)
-            self.new }
-    {
-        let Sitting::Client(client) = &mut self.sitting else {
-            return Outcome::Faulty(Fault::NoClient);
-        };
-        tell_has(client, key)
-    }
-
-    fn empty(&mut self) -> Outcome
-        ensures { ByClient (Reads is_told (λ s. is_empty_at M.means s) M.means) self.old (told_alone result) self.new }
-    {
-        let Sitting::Client(client) = &mut self.sitting else {
-            return Outcome::Faulty(Fault::NoClient);
-        };
-        tell_empty(client)
-    }
-
-    fn scan(&mut self, scan: &Scan, bytes: &mut Vec<u8>) -> Outcome
-        requires { bytes.old.items ≡ [] }
-        ensures { Lacks self.old (told result bytes.new.items) self.new
-            ⊎ ByClient (Reads rows_told (λ s. view_rows M.means s scan.now) M.means) self.old
-            (told result bytes.new.items) self.new }
-    {
-        let Sitting::Client(client) = &mut self.sitting else {
-            return Outcome::Faulty(Fault::NoClient);
-        };
-        tell_rows(self.alloc, client, scan, bytes)
-    }
-
-    fn pending(&mut self, bytes: &mut Vec<u8>) -> Outcome
-        requires { bytes.old.items ≡ [] }
-        ensures { Lacks self.old (told result bytes.new.items) self.new
-            ⊎ ByClient (Reads pending_told (λ s. s.pending) M.means) self.old (told result bytes.new.items) self.new }
-    {
-        let Sitting::Client(client) = &mut self.sitting else {
-            return Outcome::Faulty(Fault::NoClient);
-        };
-        tell_pending(client, bytes)
-    }
-
-    fn cookie(&mut self, bytes: &mut Vec<u8>) -> Outcome
-        requires { bytes.old.items ≡ [] }
-        ensures { Lacks self.old (told result bytes.new.items) self.new
-            ⊎ ByClient (Reads cookie_told (λ s. s.cookie) M.means) self.old (told result bytes.new.items) self.new }
-    {
-        let Sitting::Client(client) = &mut self.sitting else {
-            return Outcome::Faulty(Fault::NoClient);
-        };
-        tell_cookie(client, bytes)
-    }
-
-    fn closed(&mut self) -> Outcome
-        ensures { ByClient (Reads is_told (λ s. s.closed) M.means) self.old (told_alone result) self.new }
-    {
-        let Sitting::Client(client) = &mut self.sitting else {
-            return Outcome::Faulty(Fault::NoClient);
-        };
-        tell_closed(client)
-    }
-
-    fn push(&mut self, bytes: &mut Vec<u8>) -> Outcome
-        requires { bytes.old.items ≡ [] }
-        ensures { ByClient (λ c. Reads bytes_told (λ s. push_text c.group.identity s.pending) M.means c) self.old
-            (told result bytes.new.items) self.new }
-    {
-        let Sitting::Client(client) = &mut self.sitting else {
-            return Outcome::Faulty(Fault::NoClient);
-        };
-        tell_push(client, bytes)
+        tell_slots(client, bytes)
     }
 
     fn refresh(&mut self) -> Outcome
         ensures { ByClient (Refreshes M.means) self.old (told_alone result) self.new }
     {
         let Sitting::Client(client) = &mut self.sitting else {
-            return Outcome::Faulty(Fault::NoClient);
+            return Outcome::Faulty(self.sitting.absent());
         };
         id_outcome(client.refresh(TRIES))
     }
@@ -289,7 +216,7 @@ impl<M: Hosted + Sync> Place<M> {
             (told result bytes.new.items) self.new }
     {
         let Sitting::Client(client) = &mut self.sitting else {
-            return Outcome::Faulty(Fault::NoClient);
+            return Outcome::Faulty(self.sitting.absent());
         };
         make_room(&mut self.tickets, keep);
         let reply = client.begin_pull(TRIES);
@@ -312,7 +239,7 @@ impl<M: Hosted + Sync> Place<M> {
             (told_alone result) self.new }
     {
         let Sitting::Client(client) = &self.sitting else {
-            return Outcome::Faulty(Fault::NoClient);
+            return Outcome::Faulty(self.sitting.absent());
         };
         make_room(&mut self.watches, keep);
         match scan.clone() {
@@ -331,7 +258,7 @@ impl<M: Hosted + Sync> Place<M> {
             self.old (told result bytes.new.items) self.new }
     {
         let Sitting::Client(client) = &mut self.sitting else {
-            return Outcome::Faulty(Fault::NoClient);
+            return Outcome::Faulty(self.sitting.absent());
         };
         if number >= self.watches.len() {
             return Outcome::Faulty(Fault::NoWatch);
@@ -346,23 +273,14 @@ impl<M: Hosted + Sync> Place<M> {
         }
     }
 
-    // Makes a query, where no change asks for a run.
-    fn call_reading(&mut self, call: Call<'_>, bytes: &mut Vec<u8>) -> Outcome
-        requires { bytes.old.items ≡ [] }
-        ensures { (MayLack call.entry × Lacks (made_room call.entry self.old) (told result bytes.new.items) self.new)
-            ⊎ AnswersReading M.means call.entry self.old (told result bytes.new.items) self.new }
+    fn unwatch(&mut self, number: usize) -> Outcome
+        ensures { At (kept_at self.old.watches number) fault.NoWatch (Unwatches number) self.old
+            (told_alone result) self.new }
     {
-        match call {
-            Call::Get(key) => self.get(key, bytes),
-            Call::Has(key) => self.has(key),
-            Call::Scan(scan) => self.scan(scan, bytes),
-            Call::Empty => self.empty(),
-            Call::Pending => self.pending(bytes),
-            Call::Cookie => self.cookie(bytes),
-            Call::Closed => self.closed(),
-            Call::Push => self.push(bytes),
-            _ => Outcome::Faulty(Fault::NotAsked),
+        if !give_up(&mut self.watches, number) {
+            return Outcome::Faulty(Fault::NoWatch);
         }
+        Outcome::Done
     }
 
     // Makes a call that is no change, where none asks for a run.
@@ -374,11 +292,15 @@ impl<M: Hosted + Sync> Place<M> {
         match call {
             Call::Sit(id) => self.sit(id),
             Call::Leave => self.leave(),
+            Call::BeginRead => self.begin_read(),
+            Call::EndRead => self.end_read(),
+            Call::Slots => self.slots(bytes),
             Call::Refresh => self.refresh(),
             Call::Begin(keep) => self.begin(keep, bytes),
             Call::Forget(number) => self.forget(number),
             Call::Watch(keep, scan) => self.watch(keep, scan),
             Call::Poll(number) => self.poll(number, bytes),
+            Call::Unwatch(number) => self.unwatch(number),
             other => self.call_reading(other, bytes),
         }
     }

@@ -1,12 +1,14 @@
-//! The texts of rows and of pending mutations, as JSON.
+//! The texts of rows, of pending mutations and of counts, as JSON.
 ghost use Rattle.std.specs.Prelude.{◌≡◌, ◌++◌, map, decimal, OnErr, OnOk};
 ghost use mathlib.Core.List.{IsPrefix};
 ghost use Rattle.std.specs.List.{join_with_byte};
 ghost use Rattle.push_body.specs.Bodies.{quoted};
 ghost use Rattle.push_body.specs.Rows.{array_text, pending_row, row_text};
+ghost use Rattle.client_desk.specs.Told.{free_slots};
 
 use group_history::{Json, Mutation, Text};
 use push_body::push_quoted;
+use rebase::SlotCounts;
 use std::alloc::AllocError;
 
 fn said(out: &mut Vec<u8>, word: &str, text: &[u8]) -> Result<(), AllocError>
@@ -99,5 +101,17 @@ pub(crate) fn print_pending(pending: &[Mutation], out: &mut Vec<u8>) -> Result<(
 {
     said(out, "[", &[])?;
     print_pending_list(pending, out)?;
+    said(out, "]", &[])
+}
+
+/// Appends how many slots are free, as a JSON array: those for a mutation, those for a pull, and those that were let
+/// go and may become free.
+pub(crate) fn print_slots(counts: &SlotCounts, out: &mut Vec<u8>) -> Result<(), AllocError>
+    ensures { OnOk result (out.new.items ≡ out.old.items ++ array_text (map decimal (free_slots counts.now))) }
+{
+    let ordinary = u64::from(counts.ordinary_free);
+    print_number(out, "[", ordinary)?;
+    print_number(out, ",", ordinary + u64::from(counts.reserved_free))?;
+    print_number(out, ",", u64::from(counts.retired))?;
     said(out, "]", &[])
 }

@@ -1,6 +1,8 @@
 //! What a client reads, and how it is told.
-ghost use Rattle.std.specs.Prelude.{◌≡◌, ⊤, [], map, Ok, IfErr, IfOk};
+ghost use Rattle.std.specs.Prelude.{◌≡◌, ⊤, [], drop, map, Ok, IfErr, IfOk};
+ghost use Rattle.std.specs.FinMap as finite;
 ghost use Rattle.group_history.specs.Queries.{get_at, has_at, is_empty_at, view_rows};
+ghost use Rattle.group_history.specs.Scans.{rows_of};
 ghost use Rattle.answered.specs.Answered.{IsLinearized, no_change};
 ghost use Rattle.group_steps.specs.Missing.{IsMissedOrDry, map_ok};
 ghost use Rattle.group_history.specs.Rows.{Rows};
@@ -8,7 +10,8 @@ ghost use Rattle.push_body.specs.Bodies.{push_text};
 ghost use Rattle.push_body.specs.Rows.{array_text, row_text};
 ghost use Rattle.rebase.specs.Clients.{Stays};
 ghost use Rattle.rebase.specs.Queries.{gave};
-ghost use Rattle.client_desk.specs.Answers.{ReadsBy};
+ghost use Rattle.rebase.specs.Readers.{read_by};
+ghost use Rattle.client_desk.specs.Answers.{CountsBy, ReadsBy};
 ghost use Rattle.client_desk.specs.Told.{bytes_told, cookie_told, dry, is_told, pending_told, rows_told, told};
 ghost use Rattle.client_desk.specs.Told.{told_alone, value_told};
 ghost use Rattle.client_desk.specs.Inside.Reading.{MayRead};
@@ -16,10 +19,11 @@ ghost use Rattle.client_desk.specs.declared.outcomes.Outcome.TheVariants.{Done};
 
 use crate::outcomes::Outcome;
 use crate::place::TRIES;
-use crate::printing::print_pending;
+use crate::printing::{print_pending, print_slots};
 use crate::rows::RowList;
+use commit_graph::StoreNodes;
 use group_history::{Cookie, Json, Means, Mutation, Refusal, Scan};
-use rebase::{Arena, Client};
+use rebase::{Arena, Client, CommitTx, ReadTx};
 use std::alloc::{AllocError, Global};
 use std::mem::replace;
 
@@ -111,7 +115,26 @@ pub(crate) fn tell_empty<M: Means + Sync>(client: &mut Client<M, Arena<M>>) -> O
     }
 }
 
-// The rows of a scan, as a JSON array that is written to bytes of which there are none yet.
+// The rows of a scan of what is read, as a JSON array that is written to bytes of which there are none yet.
+pub(crate) fn rows_in<'a, M: Means + Sync>(
+    tx: &mut CommitTx<StoreNodes<'a, M, Arena<M>>>,
+    scan: &Scan,
+    bytes: Vec<u8>,
+) -> Result<Vec<u8>, Refusal>
+    requires { bytes.items ≡ [] }
+    ensures rows { IfOk result (λ text. text.items
+        ≡ array_text (map row_text (rows_of scan.now tx.old.version.read))) }
+    ensures refused { IfErr result (IsMissedOrDry ⊤) }
+{
+    let mut list = RowList::new(bytes);
+    if let Err(stop) = tx.scan_into(scan, &mut list) {
+        drop(list);
+        return Err(Refusal::from(stop));
+    }
+    Ok(list.end()?)
+}
+
+// The same of the view, by a client.
 fn rows_at<M: Means + Sync>(
     client: &mut Client<M, Arena<M>>,
     scan: &Scan,
@@ -144,6 +167,103 @@ pub(crate) fn tell_rows<M: Means + Sync>(
         client.new }
 {
     match rows_at(client, scan, replace(bytes, Vec::new(alloc))) {
+        Ok(rows) => {
+            *bytes = rows;
+            Outcome::Done
+        }
+        Err(refusal) => Outcome::Refused(refusal),
+    }
+}
+
+// The value at a key of what the server last sent.
+fn pulled_in<M: Means + Sync>(
+    tx: &ReadTx<'_, M, Arena<M>>,
+    key: &str,
+) -> Result<Option<Json>, Refusal>
+    ensures answer { IfOk result (λ found. found ≡ finite.get (read_by tx.now).pulled key.now) }
+    ensures refused { IfErr result (IsMissedOrDry ⊤) }
+{
+    let mut pulled = tx.pulled()?;
+    Ok(pulled.get(key)?)
+}
+
+fn pulled_value_at<M: Means + Sync>(
+    client: &mut Client<M, Arena<M>>,
+    key: &str,
+) -> Result<Option<Json>, Refusal>
+    ensures answer { IsLinearized M.means TRIES client.old.seat.mark client.new.seat.mark result no_change
+        (λ s. Ok (finite.get s.pulled key.now)) }
+    ensures refused { IfErr result (IsMissedOrDry ⊤) }
+    ensures stays { Stays ⊤ client.old client.new }
+{
+    let tx = client.read(TRIES)?;
+    let found = pulled_in(&tx, key);
+    tx.close();
+    found
+}
+
+/// Tells what the server last sent at a key.
+pub(crate) fn tell_pulled_value<M: Means + Sync>(
+    client: &mut Client<M, Arena<M>>,
+    key: &str,
+    bytes: &mut Vec<u8>,
+) -> Outcome
+    requires { bytes.old.items ≡ [] }
+    ensures { MayRead value_told (λ s. finite.get s.pulled key.now) M.means client.old (told result bytes.new.items)
+        client.new }
+{
+    match pulled_value_at(client, key) {
+        Ok(Some(json)) => wrote(bytes.extend_from_slice(json.text().as_bytes()), bytes),
+        Ok(None) => Outcome::Nothing,
+        Err(refusal) => Outcome::Refused(refusal),
+    }
+}
+
+// The rows of a scan of what the server last sent.
+fn pulled_rows_in<M: Means + Sync>(
+    tx: &ReadTx<'_, M, Arena<M>>,
+    scan: &Scan,
+    bytes: Vec<u8>,
+) -> Result<Vec<u8>, Refusal>
+    requires { bytes.items ≡ [] }
+    ensures answer { IfOk result (λ text. text.items
+        ≡ array_text (map row_text (rows_of scan.now (read_by tx.now).pulled))) }
+    ensures refused { IfErr result (IsMissedOrDry ⊤) }
+{
+    let mut pulled = tx.pulled()?;
+    rows_in(&mut pulled, scan, bytes)
+}
+
+fn pulled_rows_at<M: Means + Sync>(
+    client: &mut Client<M, Arena<M>>,
+    scan: &Scan,
+    bytes: Vec<u8>,
+) -> Result<Vec<u8>, Refusal>
+    requires { bytes.items ≡ [] }
+    ensures answer { IsLinearized M.means TRIES client.old.seat.mark client.new.seat.mark
+        (map_ok (λ text. text.items) result) no_change
+        (λ s. Ok (array_text (map row_text (rows_of scan.now s.pulled)))) }
+    ensures refused { IfErr result (IsMissedOrDry ⊤) }
+    ensures stays { Stays ⊤ client.old client.new }
+{
+    let tx = client.read(TRIES)?;
+    let rows = pulled_rows_in(&tx, scan, bytes);
+    tx.close();
+    rows
+}
+
+/// Tells the rows of a scan of what the server last sent.
+pub(crate) fn tell_pulled_rows<M: Means + Sync>(
+    alloc: Global,
+    client: &mut Client<M, Arena<M>>,
+    scan: &Scan,
+    bytes: &mut Vec<u8>,
+) -> Outcome
+    requires { bytes.old.items ≡ [] }
+    ensures { MayRead rows_told (λ s. rows_of scan.now s.pulled) M.means client.old (told result bytes.new.items)
+        client.new }
+{
+    match pulled_rows_at(client, scan, replace(bytes, Vec::new(alloc))) {
         Ok(rows) => {
             *bytes = rows;
             Outcome::Done
@@ -226,20 +346,30 @@ pub(crate) fn tell_closed<M: Means + Sync>(client: &mut Client<M, Arena<M>>) -> 
     }
 }
 
-/// Tells the body of a push.
+/// Tells the body of a push of what is pending, but for the oldest so many.
 pub(crate) fn tell_push<M: Means + Sync>(
     client: &mut Client<M, Arena<M>>,
+    skip: usize,
     bytes: &mut Vec<u8>,
 ) -> Outcome
     requires { bytes.old.items ≡ [] }
-    ensures { ReadsBy bytes_told (λ s. push_text client.old.group.identity s.pending) M.means client.old
+    ensures { ReadsBy bytes_told (λ s. push_text client.old.group.identity (drop skip s.pending)) M.means client.old
         (told result bytes.new.items) client.new }
 {
-    match client.push_body(TRIES) {
+    match client.push_body(skip, TRIES) {
         Ok(body) => {
             *bytes = body;
             Outcome::Done
         }
         Err(refusal) => Outcome::Refused(refusal),
     }
+}
+
+/// Tells how many slots are free.
+pub(crate) fn tell_slots<M: Means>(client: &mut Client<M, Arena<M>>, bytes: &mut Vec<u8>) -> Outcome
+    requires { bytes.old.items ≡ [] }
+    ensures { CountsBy client.old (told result bytes.new.items) client.new }
+{
+    let counts = client.slots();
+    wrote(print_slots(&counts, bytes), bytes)
 }

@@ -24,7 +24,7 @@ impl<M: Mutators + Drop> Place<Whole<M>> {
             self.new }
     {
         let Sitting::Client(client) = &mut self.sitting else {
-            return Outcome::Faulty(Fault::NoClient);
+            return Outcome::Faulty(self.sitting.absent());
         };
         id_outcome(client.mutate(rt, asked.name, asked.args, asked.time))
     }
@@ -34,7 +34,7 @@ impl<M: Mutators + Drop> Place<Whole<M>> {
             (λ kept. Waits M.means (IsEndOf kept body.now) c) b) self.old (told_alone result) self.new }
     {
         let Sitting::Client(client) = &mut self.sitting else {
-            return Outcome::Faulty(Fault::NoClient);
+            return Outcome::Faulty(self.sitting.absent());
         };
         match kept_at(&self.tickets, number) {
             Some(ticket) => {

@@ -237,7 +237,33 @@ fn found_at(before: Option<LastId>, at: Ref) -> Option<u64>
 /// A client's last id, where the ids follow: that of its newest commit, or else what the snapshot has confirmed, 0 for
 /// a client that is in neither. The walk ends there, and where it meets the commit at which the id was found before.
 /// Stops where the nodes stop.
+#[inline(always)]
 pub fn last_id_since<N: Nodes>(
+    nodes: &mut N,
+    head: Ref,
+    client: &Text,
+    before: Option<LastId>,
+) -> Result<u64, Stop>
+    requires head { IsSome (version_at (N.contents nodes.old) (stamp_of head)) }
+    requires place { N.places nodes.old head }
+    requires ids { (v : Version) → version_at (N.contents nodes.old) (stamp_of head) ≡ Some v
+        → IdsFollow v.state.confirmed v.state.pending }
+    requires before { (found : Ids) → before ≡ Some found
+        → last_at (N.contents nodes.old) (stamp_of found.at) client.now ≡ Some found.id }
+    ensures grown { Grows N.contents N.places nodes.old nodes.new }
+    ensures id { (v : Version) → version_at (N.contents nodes.old) (stamp_of head) ≡ Some v
+        → IfOk result (λ id. id ≡ last_id v.state client.now) }
+    ensures stopped { IfErr result N.stops }
+{
+    if let Some(id) = found_at(before, head) {
+        return Ok(id);
+    }
+    last_id_from(nodes, head, client, before)
+}
+
+// The same, by the walk alone.
+#[inline(never)]
+fn last_id_from<N: Nodes>(
     nodes: &mut N,
     head: Ref,
     client: &Text,

@@ -159,6 +159,7 @@ impl<'a, M: Means, S: Slots<M>> Chunks for StoreNodes<'a, M, S> {
 
     ghost stops = { IsStoreStop S.reused };
 
+    #[inline(always)]
     fn show(&mut self, at: Ref) -> Result<HeldChunk<'a, M>, Stop> {
         let shared = self.shared;
         let shown = shared.store.show(at.slot(), at.stamp(), self.tries)?;
@@ -175,6 +176,7 @@ impl<'a, M: Means, S: Slots<M>> Chunks for StoreNodes<'a, M, S> {
 impl<'a, M: Means, S: Slots<M>> Nodes for StoreNodes<'a, M, S> {
     type HeldCommit = HeldCommit<'a, M>;
 
+    #[inline(always)]
     fn show_commit(&mut self, at: Ref) -> Result<HeldCommit<'a, M>, Stop> {
         let shared = self.shared;
         let shown = shared.store.show(at.slot(), at.stamp(), self.tries)?;

@@ -55,6 +55,8 @@ fault_place_low fault.Asks = omega arith
 fault_place_low fault.NoClient = omega arith
 fault_place_low fault.NoPlace = omega arith
 fault_place_low fault.NotAsked = omega arith
+fault_place_low fault.Reads = omega arith
+fault_place_low fault.NotRead = omega arith
 
 -- tools/refusals: end
 

@@ -1,9 +1,10 @@
 -- Texts are ordered as the numbers of their first bytes are.
 use Rattle.std.proofs.Common.{◌≡◌, ◌≢◌, ◌<◌, ◌≤◌, ◌+◌, ◌*◌, ℕ, zero, suc, [], ◌∷◌, length, get_or, take, drop, refl}
-use Rattle.std.proofs.Common.{sym, ap, ◌∙◌, subst, arith, Ordering, Less, Equal, Greater, nat_cmp, true, true≢false}
+use Rattle.std.proofs.Common.{sym, ap, ◌∙◌, subst, arith, Ordering, Less, Equal, Greater, nat_cmp, nat_lt, true, true≢false}
+use Rattle.std.proofs.lemmas.Bool.{lt-ltb, le-ltb}
 use Rattle.std.specs.Prelude.{replicate}
 use Rattle.std.specs.Int.{w128, from_be_bytes}
-use Rattle.std.specs.Ordering.{MatchOrdering, ordering_then, is_ne}
+use Rattle.std.specs.Ordering.{MatchOrdering, ordering_then, is_ne, is_gt}
 use Rattle.std.specs.Cmp.{nat_cmp_is, ranks}
 use Rattle.std.specs.Cmp.Lexicographic.{slice_cmp}
 use Rattle.group_history.specs.Map.{Bytes}
@@ -168,3 +169,18 @@ front-decides xs ys m n o p q a b e ne =
     apart s =
         let level : o ≡ Equal = e ∙ sym (nat_cmp_is m n Equal (p ∙ s ∙ sym q)) in
         true≢false (sym ne ∙ ap is_ne level)
+
+below_greater : (m n : ℕ) (o : Ordering) → nat_cmp m n ≡ o → MatchOrdering o (m < n) (m ≡ n) (n < m)
+    → nat_lt n m ≡ is_gt (nat_cmp m n)
+below_greater m n Less e l = le-ltb n m (omega (arith, l)) ∙ ap is_gt (sym e)
+below_greater m n Equal e l = le-ltb n m (omega (arith, l)) ∙ ap is_gt (sym e)
+below_greater m n Greater e l = lt-ltb n m l ∙ ap is_gt (sym e)
+
+-- which of two texts is above, where their fronts differ
+pub front-above : (xs ys : Bytes) (m n : ℕ) → m ≡ front_of xs → n ≡ front_of ys → AreBytes xs → AreBytes ys → m ≢ n
+    → nat_lt n m ≡ is_gt (slice_cmp nat_cmp xs ys)
+front-above xs ys m n p q a b apart =
+    below_greater m n (nat_cmp m n) refl (ranks m n)
+    ∙ ap (λ w. is_gt (nat_cmp w n)) p
+    ∙ ap (λ w. is_gt (nat_cmp (front_of xs) w)) q
+    ∙ ap is_gt (sym (front-order xs ys a b (λ e. apart (p ∙ e ∙ sym q))))

@@ -67,4 +67,4 @@ pub use responses::{Confirmed, Ended, Patch, PullOk, Response, VersionKind};
 pub use scans::{Scan, Start};
 pub use steps::{apply_patch, is_going_back, is_saying_nothing, keep_unconfirmed, overwrite};
 pub use text_map::TextMap;
-pub use texts::{SearchKey, Text};
+pub use texts::{SearchKey, Text, is_word};

@@ -259,6 +259,7 @@ impl<R> Model for BoxedCommit<R> {
 
 impl<R> BoxedCommit<R> {
     /// The commit, in memory of its own.
+    #[inline(always)]
     pub fn new(alloc: Global, commit: Commit<R>) -> Result<BoxedCommit<R>, AllocError>
     where
         R: Drop,

@@ -3,7 +3,7 @@
 //! Contracts see a `Text` as the list of its UTF-8 bytes, so two texts are equal where their bytes are,
 //! and they are ordered by their bytes. How a text is kept goes by its length alone: a short one lies in the
 //! `Text`, a middling one in one shared block, and a long one is a shared `String`.
-ghost use Rattle.std.specs.Prelude.{◌≡◌, ◌≤◌, [], length, Some, IfOk, nat_eq, string_bytes};
+ghost use Rattle.std.specs.Prelude.{◌≡◌, ◌≤◌, [], length, Some, IfOk, nat_eq, bytes_eq, string_bytes};
 ghost use Rattle.std.specs.Cmp as laws;
 ghost use Rattle.std.specs.Cmp.Lexicographic.{slice_cmp, pointwise, texts_ties, texts_po};
 ghost use Rattle.std.specs.Cmp.Lexicographic.{nat_list_eq_equiv, nat_list_cmp_total};
@@ -191,4 +191,21 @@ impl fmt::Display for Text {
     fn fmt<W: fmt::Write>(&self, f: &mut fmt::Formatter<W>) -> fmt::Result {
         f.write_str(self.as_str())
     }
+}
+
+/// Whether a text is this short word: it is compared in place, since a call would take longer than the comparison.
+#[inline(always)]
+pub fn is_word<const N: usize>(text: &str, word: &[u8; N]) -> bool
+    ensures { result ≡ bytes_eq text.now word.now }
+{
+    let bytes = text.as_bytes();
+    if bytes.len() != N {
+        return false;
+    }
+    'bytes: for i in 0..N {
+        if bytes[i] != word[i] {
+            return false;
+        }
+    }
+    true
 }

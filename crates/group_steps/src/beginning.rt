@@ -327,6 +327,7 @@ fn begin_outcome<M: Runs, S: Slots<M>>(
 }
 
 // What the pull asks for first, at an open group.
+#[inline(never)]
 fn begin_pull<'a, M: Runs, S: Slots<M>>(
     at: &At<'a, M, S>,
     spot: Spot,
@@ -348,6 +349,7 @@ fn begin_pull<'a, M: Runs, S: Slots<M>>(
 }
 
 // The closing of an open group asks for no run.
+#[inline(never)]
 fn begin_closing<M: Runs, S: Slots<M>>(at: &At<'_, M, S>, spot: Spot) -> Result<Step, Refusal>
     requires spot { IsSpot M.means at.now spot.tip spot.first }
     ensures step { (last : ℕ) → IfOk result

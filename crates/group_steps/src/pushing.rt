@@ -1,8 +1,9 @@
-//! The body of a push at a commit: what is pending there is written where it stands, and not copied.
+//! The body of a push at a commit: what is pending there is written where it stands, and not copied. What is skipped is
+//! walked past.
 //!
-//! A taker is known by what it has taken alone. So whose push it writes is named by its type: `W` stands for the
-//! identity.
-ghost use Rattle.std.specs.Prelude.{◌≡◌, ◌⊎◌, [], Some, IsSome, IfOk, IfErr};
+//! A taker is known by what it has taken alone. So which push it writes is named by its type: `W` stands for the
+//! identity, and for how many mutations are skipped.
+ghost use Rattle.std.specs.Prelude.{ℕ, ◌≡◌, ◌⊎◌, ◌-◌, [], drop, length, Some, IsSome, IfOk, IfErr};
 ghost use Rattle.group_history.specs.Refs.{stamp_of};
 ghost use Rattle.group_history.specs.Spelling.{Version, version_at};
 ghost use Rattle.group_history.specs.declared.mutators.Stop.TheVariants as stopping;
@@ -20,45 +21,59 @@ use push_body::{Identity, PushWriter};
 use std::alloc::{AllocError, Global};
 use std::marker::{Brand, PhantomData};
 
-/// Names an identity.
-trait Whose {
+/// Names a push: whose it is, and how many of the oldest mutations it skips.
+trait Which {
     ghost whose: { Identified };
+
+    ghost skipped: { ℕ };
 }
 
-impl Whose for Brand {
+impl Which for Brand {
     ghost whose = { record { group = []; profile = []; schema = [] } };
+
+    ghost skipped = { 0 };
 }
 
-/// A push of the identity that `W` names, to which mutations are handed.
+/// The push that `W` names, to which mutations are handed.
 #[derive(Drop)]
-struct Pushed<'i, W: Whose> {
+struct Pushed<'i, W: Which> {
+    // How many are still to be skipped.
+    left: usize,
     writer: PushWriter<'i>,
     of: PhantomData<W>,
 }
 
-impl<'i, W: Whose> TakesMutations for Pushed<'i, W> {
-    ghost has = { λ pushed xs. HasWritten W.whose xs pushed.writer };
+impl<'i, W: Which> TakesMutations for Pushed<'i, W> {
+    ghost has = { λ pushed xs. (pushed.left ≡ W.skipped - length xs)
+        × HasWritten W.whose (drop W.skipped xs) pushed.writer };
 
     fn take(&mut self, mutation: &Mutation) -> Result<(), AllocError> {
+        if self.left > 0 {
+            self.left -= 1;
+            return Ok(());
+        }
         self.writer.add(mutation)
     }
 }
 
-fn written<N: Nodes, W: Whose>(
+fn written<N: Nodes, W: Which>(
     alloc: Global,
     nodes: &mut N,
     at: Ref,
     identity: &Identity,
+    skip: usize,
 ) -> Result<Vec<u8>, Stop>
     requires whose { identity.now ≡ W.whose }
+    requires skipped { skip ≡ W.skipped }
     requires known { IsSome (version_at (N.contents nodes.old) (stamp_of at)) }
     requires place { N.places nodes.old at }
     ensures body { (v : Version) → version_at (N.contents nodes.old) (stamp_of at) ≡ Some v
-        → IfOk result (λ body. body.items ≡ push_text W.whose v.state.pending) }
+        → IfOk result (λ body. body.items ≡ push_text W.whose (drop W.skipped v.state.pending)) }
     ensures stopped { IfErr result (λ stop. (stop ≡ stopping.NoMemory) ⊎ N.stops stop) }
 {
     let writer = PushWriter::new(alloc, identity)?;
     let mut pushed = Pushed::<W> {
+        left: skip,
         writer,
         of: PhantomData,
     };
@@ -66,9 +81,12 @@ fn written<N: Nodes, W: Whose>(
     Ok(pushed.writer.into_bytes()?)
 }
 
-/// The body of a push of all that is pending at the commit.
-pub fn body_at<'a, M: Means, S: Slots<M>>(at: &At<'a, M, S>) -> Result<Vec<u8>, Refusal>
-    ensures body { IfOk result (λ body. body.items ≡ push_text at.now.identity (state_at at.now).pending) }
+/// The body of a push of what is pending at the commit, but for the oldest so many.
+pub fn body_at<'a, M: Means, S: Slots<M>>(
+    at: &At<'a, M, S>,
+    skip: usize,
+) -> Result<Vec<u8>, Refusal>
+    ensures body { IfOk result (λ body. body.items ≡ push_text at.now.identity (drop skip (state_at at.now).pending)) }
     ensures err { IfErr result (IsMissedOrDry S.reused) }
 {
     let group = at.group;
@@ -78,5 +96,6 @@ pub fn body_at<'a, M: Means, S: Slots<M>>(at: &At<'a, M, S>) -> Result<Vec<u8>, 
         &mut nodes,
         at.commit,
         &group.identity,
+        skip,
     )?)
 }

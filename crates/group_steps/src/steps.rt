@@ -27,6 +27,7 @@ use group_history::{Means, Ref, Refusal, Text};
 use head_word::Mark;
 
 /// Pins the seat, and looks where the head is.
+#[inline(always)]
 pub fn pin_and_load<M: Means, S: Slots<M>>(
     shared: &Shared<M, S>,
     seat: &mut Seat<M, S>,

@@ -63,6 +63,7 @@ pub fn closed_at<M: Means, S: Slots<M>>(at: &At<'_, M, S>) -> Result<bool, Refus
 }
 
 /// A client's last id at the commit, where it was found at another one before or never.
+#[inline(always)]
 pub(crate) fn last_known<M: Means, S: Slots<M>>(
     at: &At<'_, M, S>,
     client: &Text,

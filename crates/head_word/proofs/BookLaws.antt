@@ -1,6 +1,7 @@
 -- The laws of books.
 use Rattle.std.proofs.Common.{◌≡◌, ℕ, zero, suc, ◌+◌, ◌<◌, ◌≤◌, ◌==◌, ◌&&◌, Bool, true, false, List, [], ◌∷◌, ◌++◌, ◌⊎◌}
 use Rattle.std.proofs.Common.{inl, inr, length, slice_get, Some, refl, ap, sym, ◌∙◌, subst, arith, length-append}
+use Rattle.std.proofs.Common.{append-nil}
 use Rattle.std.specs.Prelude.{option_map}
 use Rattle.std.proofs.lemmas.Option.{slice_get-map}
 use Rattle.std.proofs.lemmas.Bool.{eqb-true}
@@ -8,16 +9,18 @@ use mathlib.Core.List.{IsPrefix}
 use Rattle.group_history.specs.declared.nodes.Node.{Node}
 use Rattle.group_history.specs.Meaning.{Meanings}
 use Rattle.group_history.specs.Naming.{drafted_content}
+use Rattle.group_history.specs.Refs.{stamp_of}
+use Rattle.group_history.specs.declared.refs.Ref.{Ref}
 use Rattle.group_history.specs.Spelling.{Version, version_at}
 use Rattle.group_history.proofs.Spellings.{version-stays}
 use Rattle.group_history.proofs.Lists.{get_more}
 use Rattle.head_word.specs.declared.entry.DraftEntry.{DraftEntry}
 use Rattle.head_word.specs.declared.entry.Entry.{Entry}
 use Rattle.head_word.specs.declared.entry.Entry.TheVariants as v
-use Rattle.head_word.specs.Books.{drafted_contents, drawn, numbered, record_of}
-use Rattle.head_word.specs.Laws.{IsDraftAt, BookLaws}
+use Rattle.head_word.specs.Books.{AreRising, drafted_contents, drawn, last_move, moved_from, nowhere, numbered, record_of}
+use Rattle.head_word.specs.Laws.{IsDraftAt, BookLaws, moment}
 use Rattle.head_word.proofs.Beginnings.{prefix_one}
-use Rattle.head_word.proofs.Books.{drawn_more, length-drafted, record_more}
+use Rattle.head_word.proofs.Books.{drawn_more, length-drafted, moved_more, record_more, rising_behind}
 
 -- the contents of a longer book are longer
 pub drawn_begins : (xs ys : List Entry) → IsPrefix xs ys → IsPrefix (drawn xs) (drawn ys)
@@ -164,6 +167,30 @@ records_one xs ys zs p q = elim (prefix_one xs ys zs p q) [
   | inr r ↦ inr (record_begins ys xs r)
 ]
 
+-- entries that rise go nowhere below, and where they end as low as they began, none of them moved the head
+rises_from : (r : Ref) (es : List Entry) → AreRising r es → (stamp_of r ≤ stamp_of (moved_from r es))
+    × (stamp_of r ≡ stamp_of (moved_from r es) → record_of es ≡ [])
+rises_from r [] a = ((omega arith), λ e. refl)
+rises_from r (v.Draft d ∷ es) a = rises_from r es a
+rises_from r (v.Move m ∷ es) a =
+    let far = rises_from m.to es a.1 in
+    ((omega (arith, a.0, far.0)), λ e. absurd (omega (arith, a.0, far.0, e)))
+rises_from r (v.Opening o ∷ es) a =
+    let far = rises_from o.to es a.1 in
+    ((omega (arith, a.0, far.0)), λ e. absurd (omega (arith, a.0, far.0, e)))
+
+moments-rise : (xs ys : List Entry) → IsPrefix xs ys → AreRising nowhere ys → (moment xs ≤ moment ys)
+    × (moment xs ≡ moment ys → record_of xs ≡ record_of ys)
+moments-rise xs ys p rising =
+    let far = rises_from (last_move xs) p.0 (rising_behind nowhere xs p.0
+    (subst (AreRising nowhere) (sym p.1) rising)) in
+    let goes : moved_from (last_move xs) p.0 ≡ last_move ys = sym (moved_more nowhere xs p.0) ∙ ap last_move p.1 in (
+      subst (λ (r : Ref). moment xs ≤ stamp_of r) goes far.0,
+      λ e. sym (append-nil (record_of xs))
+          ∙ ap (λ w. record_of xs ++ w) (sym (far.1 (e ∙ ap stamp_of (sym goes))))
+          ∙ sym (record_more xs p.0) ∙ ap record_of p.1,
+    )
+
 pub book_laws_hold : (means : Meanings) → BookLaws means
 book_laws_hold means = record {
   content_stays = content-stays;
@@ -173,4 +200,5 @@ book_laws_hold means = record {
   drafted_once = λ log opened. once log opened.0.numbered;
   one_record = records_one;
   record_grows = record_begins;
+  moments_rise = λ xs ys p opened. moments-rise xs ys p opened.0.rising;
 }

@@ -22,7 +22,7 @@ use Rattle.group_history.proofs.Spellings.{version-stays}
 use Rattle.head_word.specs.declared.entry.Entry.{Entry}
 use Rattle.head_word.specs.declared.entry.Entry.TheVariants as v
 use Rattle.head_word.specs.Books.{drafted_contents, drawn, next_stamp, numbered, moved_from, record_of, seats_of}
-use Rattle.head_word.specs.Books.{AreOrdered, StartsOpened, IsBySeat, AreBySeats, IsBefore, AreAfter}
+use Rattle.head_word.specs.Books.{AreOrdered, AreRising, StartsOpened, IsBySeat, AreBySeats, IsBefore, AreAfter}
 
 pub drawn_more : (xs ys : List Entry) → drawn (xs ++ ys) ≡ drawn xs ++ drawn ys
 drawn_more [] ys = refl
@@ -36,6 +36,20 @@ moved_more r [] ys = refl
 moved_more r (v.Draft d ∷ xs) ys = moved_more r xs ys
 moved_more r (v.Move m ∷ xs) ys = moved_more m.to xs ys
 moved_more r (v.Opening o ∷ xs) ys = moved_more o.to xs ys
+
+pub rising_more : (r : Ref) (xs ys : List Entry) → AreRising r xs → AreRising (moved_from r xs) ys
+    → AreRising r (xs ++ ys)
+rising_more r [] ys a b = b
+rising_more r (v.Draft d ∷ xs) ys a b = rising_more r xs ys a b
+rising_more r (v.Move m ∷ xs) ys a b = (a.0, rising_more m.to xs ys a.1 b)
+rising_more r (v.Opening o ∷ xs) ys a b = (a.0, rising_more o.to xs ys a.1 b)
+
+-- and what stands behind a beginning rises from where that went
+pub rising_behind : (r : Ref) (xs ys : List Entry) → AreRising r (xs ++ ys) → AreRising (moved_from r xs) ys
+rising_behind r [] ys a = a
+rising_behind r (v.Draft d ∷ xs) ys a = rising_behind r xs ys a
+rising_behind r (v.Move m ∷ xs) ys a = rising_behind m.to xs ys a.1
+rising_behind r (v.Opening o ∷ xs) ys a = rising_behind o.to xs ys a.1
 
 pub record_more : (xs ys : List Entry) → record_of (xs ++ ys) ≡ record_of xs ++ record_of ys
 record_more [] ys = refl

@@ -37,7 +37,7 @@ use Rattle.head_word.specs.Tallies.{key_of, count}
 use Rattle.head_word.specs.Rules.{head_says, drafts_say, FitsOpened, Fits, IsKept}
 use Rattle.head_word.specs.Inside.Parts.{Trades}
 use Rattle.head_word.specs.Inside.Steps.{tells, answer, Counts, Exchanges, Opens}
-use Rattle.head_word.proofs.Books.{drawn_more, moved_more, record_more, length-drafted, numbered_more, ordered_more}
+use Rattle.head_word.proofs.Books.{drawn_more, moved_more, record_more, rising_more, length-drafted, numbered_more, ordered_more}
 use Rattle.head_word.proofs.Books.{drafted_ordered, spells_more, starts_more, seats_more, seats_added, next_more}
 use Rattle.head_word.proofs.Counting.{count_more, count_other, count_starts}
 
@@ -60,6 +60,7 @@ book_draft means log by contents b before room =
       room = omega (arith, room, next_more log (e ∷ []), length-append dc [], length-drafted first contents);
       ordered = subst (AreOrdered 0) (sym (drawn_more log (e ∷ [])))
           (ordered_more 0 (drawn log) (dc ++ []) b.ordered more);
+      rising = rising_more nowhere log (e ∷ []) b.rising tt;
       legal = subst (IsLegal means) rec b.legal;
       spelled = subst (λ (t : Ref × List Change). Spells means (drawn (log ++ e ∷ [])) (stamp_of t.0) (after t.1))
           (λ i. (last i, rec i)) (spells_more means log (e ∷ []) (stamp_of (last_move log))
@@ -67,10 +68,10 @@ book_draft means log by contents b before room =
     }
 
 book_move : (means : Meanings) (log : List Entry) (by : Option ℕ) (to : Ref) (change : Change) → IsBook means log
-    → IsAccepted means (after (record_of log)) change
+    → stamp_of (last_move log) < stamp_of to → IsAccepted means (after (record_of log)) change
     → Spells means (drawn log) (stamp_of to) (after_change (after (record_of log)) change)
     → IsBook means (log ++ moved by to change ∷ [])
-book_move means log by to change b may spells =
+book_move means log by to change b above may spells =
     let e = moved by to change in
     let rec : record_of log ++ change ∷ [] ≡ record_of (log ++ e ∷ []) = sym (record_more log (e ∷ [])) in
     let state : after_change (after (record_of log)) change
@@ -80,6 +81,7 @@ book_move means log by to change b may spells =
       numbered = numbered_more 0 log (e ∷ []) ∙ rw b.numbered refl;
       room = omega (arith, b.room, next_more log (e ∷ []));
       ordered = subst (AreOrdered 0) (sym (drawn_more log (e ∷ []) ∙ append-nil (drawn log))) b.ordered;
+      rising = rising_more nowhere log (e ∷ []) b.rising (above, tt);
       legal = subst (IsLegal means) rec (IsLegal-push means (record_of log) change b.legal may);
       spelled = subst (λ (t : Ref × State). Spells means (drawn (log ++ e ∷ [])) (stamp_of t.0) t.1)
           (λ i. (last i, state i)) (spells_more means log (e ∷ []) (stamp_of to)
@@ -358,7 +360,9 @@ move_goes means v log by base to change h d pre starts seat follows fits true is
     let then : Spells means (drawn log) (stamp_of to) (after_change state change) = subst
     (λ (s : State). Spells means (drawn log) (stamp_of to) (after_change s change)) same
     (spells_from means v log (stamp_of to) (after_change follows.state change) pre follows.then) in
-    let book' : IsBook means (log ++ e ∷ []) = book_move means log by to change fits.opened.0 may then in
+    let above : stamp_of (last_move log) < stamp_of to = subst
+    (λ (k : ℕ). stamp_of (record { bits = k }) < stamp_of to) (sym last) follows.later in
+    let book' : IsBook means (log ++ e ∷ []) = book_move means log by to change fits.opened.0 above may then in
     let starts' : StartsOpened (log ++ e ∷ []) = starts_more log (e ∷ []) fits.opened.1 in
     let seats' = seats_added log e fits.opened.1 fits.opened.2 (by_from v log e pre starts seat) in
     let goes : (last_move (log ++ e ∷ [])).bits
@@ -434,6 +438,10 @@ pub opening_spells : (means : Meanings) (n : ℕ) (r : Ref) → Spells means (dr
 opening_spells means n r = ap (λ (m : Entries). Some
     (record { state = pulled_state m null_cookie finite.empty; read = m })) empty_map
 
+-- nothing bears a smaller stamp than where the head is before it
+nowhere_first : stamp_of nowhere ≡ 0
+nowhere_first = refl
+
 -- the opening book
 pub opening_book : (means : Meanings) (n : ℕ) (r : Ref) → stamp_of r ≡ 1 → IsOpened means (opening n r)
 opening_book means n r one =
@@ -443,6 +451,7 @@ opening_book means n r one =
         numbered = refl;
         room = lit≤ tt;
         ordered = ((λ k d lt. absurd (omega (arith, lt))), ((λ k d lt. opening_child k d lt), tt));
+        rising = ((let l : stamp_of nowhere < stamp_of r = omega (arith, one, nowhere_first) in l), tt);
         legal = tt;
         spelled = spelled;
       },

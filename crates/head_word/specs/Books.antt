@@ -64,6 +64,13 @@ abbrev pub with_change : Option Change → List Change → List Change
 with_change None cs = cs
 with_change (Some c) cs = c ∷ cs
 
+-- each move goes to a greater stamp than the one before it; the first one to a greater one than r bears
+abbrev pub AreRising : Ref → List Entry → Type 0
+AreRising r [] = Unit {0}
+AreRising r (v.Draft d ∷ es) = AreRising r es
+AreRising r (v.Move m ∷ es) = (stamp_of r < stamp_of m.to) × AreRising m.to es
+AreRising r (v.Opening o ∷ es) = (stamp_of r < stamp_of o.to) × AreRising o.to es
+
 -- the record of a book: the changes of its moves; the opening's has none
 abbrev pub record_of : List Entry → List Change
 record_of [] = []
@@ -76,12 +83,13 @@ abbrev pub AreOrdered : ℕ → Contents → Type 0
 AreOrdered n [] = Unit {0}
 AreOrdered n (c ∷ cs) = All (λ k. k < n) (children c) × AreOrdered (suc n) cs
 
--- What is true of every book: stamps go up one by one, children before parents, its record is legal, and the commit
--- where its last move went spells the state after that record.
+-- What is true of every book: stamps go up one by one, children before parents, moves go to ever greater stamps, its
+-- record is legal, and the commit where its last move went spells the state after that record.
 pub record IsBook (means : Meanings) (log : List Entry) : Type 0 where
   pub numbered : numbered 0 log ≡ true
   pub room : next_stamp log ≤ stamps
   pub ordered : AreOrdered 0 (drawn log)
+  pub rising : AreRising nowhere log
   pub legal : IsLegal means (record_of log)
   pub spelled : Spells means (drawn log) (stamp_of (last_move log)) (after (record_of log))
 
@@ -175,10 +183,11 @@ abbrev pub AreAfter : ℕ → ℕ → List (Node Child) → Type 0
 AreAfter n place [] = Unit {0}
 AreAfter n place (c ∷ cs) = All (IsBefore n place) (children c) × AreAfter n (suc place) cs
 
--- By these contents the state of `new` is that of `base` after the change, which is accepted there; and queries read at
--- each of the two the view of its state.
+-- By these contents the state of `new`, a later commit, is that of `base` after the change, which is accepted there; and
+-- queries read at each of the two the view of its state.
 pub record IsChangeFrom (means : Meanings) (contents : Contents) (base new : Ref) (change : Change) : Type 0 where
   pub state : State
+  pub later : stamp_of base < stamp_of new
   pub before : Spells means contents (stamp_of base) state
   pub accepted : IsAccepted means state change
   pub then : Spells means contents (stamp_of new) (after_change state change)

@@ -15,7 +15,8 @@ no_run_key what (inl e) is = omega (arith, e, is)
 no_run_key what (inr (inl e)) is = omega (arith, e, is)
 no_run_key what (inr (inr (inl e))) is = omega (arith, e, is)
 no_run_key what (inr (inr (inr (inl e)))) is = omega (arith, e, is)
-no_run_key what (inr (inr (inr (inr e)))) is = omega (arith, e, is)
+no_run_key what (inr (inr (inr (inr (inl e))))) is = omega (arith, e, is)
+no_run_key what (inr (inr (inr (inr (inr e))))) is = omega (arith, e, is)
 
 pub key_run : (has : Bytes → Bool) (means : Meanings) (place : PlaceState) (c : Call) (what m n : ℕ) (a b : Bytes)
     → HasKey what → IsCall c what m n a b → HasRunAsMeant has means place c

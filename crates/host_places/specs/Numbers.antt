@@ -28,7 +28,7 @@ IsCall call.Pending what m n a b = what ≡ 5
 IsCall call.Cookie what m n a b = what ≡ 6
 IsCall call.Closed what m n a b = what ≡ 7
 IsCall call.Refresh what m n a b = what ≡ 8
-IsCall call.Push what m n a b = what ≡ 9
+IsCall (call.Push skip) what m n a b = (what ≡ 9) × (skip ≡ m)
 IsCall (call.Begin keep) what m n a b = (what ≡ 10) × (keep ≡ AtNext)
 IsCall (call.Forget t) what m n a b = (what ≡ 11) × (t ≡ m)
 IsCall (call.End t body) what m n a b = (what ≡ 12) × (t ≡ m) × (body.now ≡ a)
@@ -44,14 +44,22 @@ IsCall (call.DraftPut key value) what m n a b = (what ≡ 21) × (put_said a b �
 IsCall (call.DraftDel key) what m n a b = (what ≡ 22) × (text_said a ≡ Ok key.now)
 IsCall (call.Ran ran) what m n a b = (what ≡ 23) × (ran_said m n ≡ Ok ran)
 IsCall call.GiveUp what m n a b = what ≡ 24
+IsCall call.Slots what m n a b = what ≡ 25
+IsCall call.BeginRead what m n a b = what ≡ 26
+IsCall call.EndRead what m n a b = what ≡ 27
+IsCall call.Moment what m n a b = what ≡ 28
+IsCall (call.PulledGet key) what m n a b = (what ≡ 29) × (text_said a ≡ Ok key.now)
+IsCall (call.PulledScan scan) what m n a b = (what ≡ 30) × (scan_said a m b n ≡ Ok scan.now)
+IsCall (call.Unwatch w) what m n a b = (what ≡ 31) × (w ≡ m)
+IsCall call.AskedRun what m n a b = what ≡ 32
 IsCall other what m n a b = ⊥
 
 -- a call that has a key, and one that has a scan
 abbrev pub HasKey : ℕ → Type 0
-HasKey what = (what ≡ 2) ⊎ (what ≡ 3) ⊎ (what ≡ 18) ⊎ (what ≡ 19) ⊎ (what ≡ 22)
+HasKey what = (what ≡ 2) ⊎ (what ≡ 3) ⊎ (what ≡ 18) ⊎ (what ≡ 19) ⊎ (what ≡ 22) ⊎ (what ≡ 29)
 
 abbrev pub HasScan : ℕ → Type 0
-HasScan what = (what ≡ 4) ⊎ (what ≡ 14) ⊎ (what ≡ 20)
+HasScan what = (what ≡ 4) ⊎ (what ≡ 14) ⊎ (what ≡ 20) ⊎ (what ≡ 30)
 
 -- what the call is given says nothing, and this is told; or there is no such call
 abbrev pub SaysNothing : ℕ → ℕ → ℕ → Bytes → Bytes → Outcome → Type 0
@@ -59,7 +67,7 @@ SaysNothing what m n a b e =
     ((what ≡ 0) × (uuid_said a ≡ Err e)) ⊎ (HasKey what × (text_said a ≡ Err e))
     ⊎ (HasScan what × (scan_said a m b n ≡ Err e)) ⊎ ((what ≡ 13) × (named_said a b ≡ Err e))
     ⊎ ((what ≡ 21) × (put_said a b ≡ Err e)) ⊎ ((what ≡ 23) × (ran_said m n ≡ Err e))
-    ⊎ ((24 < what) × (e ≡ Faulty OutOfRange))
+    ⊎ ((32 < what) × (e ≡ Faulty OutOfRange))
 
 -- memory is taken for what it is given
 abbrev pub IsCopied : ℕ → Type 0

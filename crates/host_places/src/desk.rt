@@ -166,7 +166,7 @@ impl<M: HostRuns> Desk<M> {
         }
     }
 
-    /// Makes the call of these numbers and bytes. A number above 24 is that of no call. Where it tells that a run has
+    /// Makes the call of these numbers and bytes. A number above 32 is that of no call. Where it tells that a run has
     /// ended, the run is one of what the group's mutators mean.
     pub fn call_numbered(&mut self, asked: Numbered<'_>) -> Outcome
         requires { asked.what ≡ 23
@@ -184,7 +184,7 @@ impl<M: HostRuns> Desk<M> {
             6 => self.call(Call::Cookie),
             7 => self.call(Call::Closed),
             8 => self.call(Call::Refresh),
-            9 => self.call(Call::Push),
+            9 => self.call(Call::Push(asked.m as usize)),
             10 => self.call(Call::Begin(Keep::AtNext)),
             11 => self.call(Call::Forget(asked.m as usize)),
             12 => self.call(Call::End(asked.m as usize, asked.a)),
@@ -200,6 +200,14 @@ impl<M: HostRuns> Desk<M> {
             22 => self.call_key(asked),
             23 => self.ran(asked),
             24 => self.call(Call::GiveUp),
+            25 => self.call(Call::Slots),
+            26 => self.call(Call::BeginRead),
+            27 => self.call(Call::EndRead),
+            28 => self.call(Call::Moment),
+            29 => self.call_key(asked),
+            30 => self.call_scan(asked),
+            31 => self.call(Call::Unwatch(asked.m as usize)),
+            32 => self.call(Call::AskedRun),
             _ => self.refuse(Outcome::Faulty(Fault::OutOfRange)),
         }
     }

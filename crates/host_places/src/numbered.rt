@@ -28,6 +28,7 @@ pub(crate) fn key_call<'a>(what: u32, key: &'a str) -> Call<'a>
         18 => Call::DraftGet(key),
         19 => Call::DraftHas(key),
         22 => Call::DraftDel(key),
+        29 => Call::PulledGet(key),
         _ => unreachable!(),
     }
 }
@@ -41,6 +42,7 @@ pub(crate) fn scan_call<'a>(what: u32, scan: &'a Scan) -> Call<'a>
         4 => Call::Scan(scan),
         14 => Call::Watch(Keep::AtNext, scan),
         20 => Call::DraftScan(scan),
+        30 => Call::PulledScan(scan),
         _ => unreachable!(),
     }
 }

@@ -70,6 +70,7 @@ impl Draft {
 
     /// Appends a node, whose children have stamps below its own, and answers how it is named. Refused with
     /// Stamps where its stamp would be `STAMPS`, which is never so where more than 2^32 stamps are left.
+    #[inline(always)]
     pub fn push(&mut self, node: Node<Ref>) -> Result<Ref, Refusal>
         requires children { AreBelow (self.old.first + length self.old.nodes) (children node) }
         ensures stamp { IfOk result (λ at. (stamp_of at ≡ self.old.first + length self.old.nodes) × (slot_of at ≡ 0)) }
@@ -91,6 +92,7 @@ impl Draft {
     }
 
     /// Appends a commit, as `push` does.
+    #[inline(always)]
     pub fn push_commit(&mut self, commit: Commit<Ref>) -> Result<Ref, Refusal>
         requires children { AreBelow (self.old.first + length self.old.nodes) (commit_children commit) }
         ensures stamp { IfOk result (λ at. (stamp_of at ≡ self.old.first + length self.old.nodes) × (slot_of at ≡ 0)) }
@@ -152,7 +154,7 @@ fn make_room(nodes: &mut Vec<Node<Ref>>) -> Result<(), AllocError>
     ensures { nodes.new.items ≡ nodes.old.items }
 {
     if nodes.is_empty() {
-        nodes.reserve(USUAL)?;
+        nodes.reserve_exact(USUAL)?;
     }
     Ok(())
 }

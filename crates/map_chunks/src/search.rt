@@ -12,6 +12,7 @@ use std::alloc::AllocError;
 use std::cmp::Ordering;
 
 /// How many of the keys aren't above this one.
+#[inline(always)]
 fn rank(keys: &[Text], key: &SearchKey<'_>) -> usize
     ensures { IsRank key.now keys.now result }
 {
@@ -19,7 +20,7 @@ fn rank(keys: &[Text], key: &SearchKey<'_>) -> usize
     let mut high = keys.len();
     while low < high {
         let middle = low + (high - low) / 2;
-        if key.order_of(&keys[middle]).is_gt() {
+        if key.is_below(&keys[middle]) {
             high = middle;
         } else {
             low = middle + 1;
@@ -38,6 +39,7 @@ pub fn place_of(keys: &[Text], key: &str) -> usize
 }
 
 /// The same, of a key whose first bytes were read already.
+#[inline(always)]
 pub fn place_for(keys: &[Text], key: &SearchKey<'_>) -> usize
     requires filled { 0 < length keys.now }
     requires order { T (rises keys.now) }

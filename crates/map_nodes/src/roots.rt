@@ -146,6 +146,7 @@ impl OwnRoot {
     }
 
     // What a way down from a placed chunk to a key ended in, as a map.
+    #[inline(always)]
     fn settled<C: Chunks>(
         alloc: Global,
         chunks: &C,

@@ -283,6 +283,30 @@ pub placed_among : (before after : Contents) (draft : Drafted) (refs : List Ref)
 placed_among before after draft refs is cs l at v spells own =
     ref_among draft.first refs at own (placed-low before after draft refs is cs l at v spells)
 
+-- and it has a greater stamp than each commit that was known before the draft was placed
+pub placed-later : (before after : Contents) (draft : Drafted) (refs : List Ref) → IsPlaced before after draft refs
+    → (cs : Contents) → length cs ≡ draft.first → (at : Ref) (v : Version)
+    → version_at (with_nodes cs draft.nodes) (stamp_of at) ≡ Some v → draft.first ≤ stamp_of at
+    → (base : Ref) (w : Version) → version_at before (stamp_of base) ≡ Some w
+    → stamp_of base < stamp_of (placed_ref draft.first refs at)
+placed-later before after draft refs is cs l at v spells own base w known =
+    let low = placed-low before after draft refs is cs l at v spells in
+    let k = stamp_of at - draft.first in
+    let e : draft.first + k ≡ stamp_of at = omega (arith, own) in
+    let stamp : stamp_of (placed_ref draft.first refs at) ≡ is.first + k =
+    ref_stamped draft.first is.first refs at is.stamps low
+    ∙ ap (stamped draft.first is.first) (sym e) ∙ stamped-own draft.first is.first k in
+    let x = spelled_version before (stamp_of base) w known in
+    omega (
+      arith,
+      answer_within (spelled before) (stamp_of base) (version w x.0) x.1,
+      length-spelled before,
+      ap length is.since.1,
+      length-append before is.since.0,
+      is.behind,
+      stamp,
+    )
+
 -- So a commit of a draft that was placed spells, under the reference that it then has, what it spelled in the draft.
 pub placed-spelled : (before after : Contents) (draft : Drafted) (refs : List Ref) → IsPlaced before after draft refs
     → (cs : Contents) → IsPrefix cs before → length cs ≡ draft.first → (at : Ref) (v : Version)

@@ -175,7 +175,7 @@ fn place_all<M: Means, S: Store<M>>(
     ensures err { IfErr result (MayRefuse S.reused) }
     ensures past { IfErr result (λ e. e ≡ refusal.Full → max_slots ≤ to.now.first + length nodes.items) }
 {
-    refs.reserve(nodes.len())?;
+    refs.reserve_exact(nodes.len())?;
     place_each::<M, S>(to, seat, nodes, slots, refs)
 }
 

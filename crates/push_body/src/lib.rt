@@ -21,4 +21,4 @@ pub use laws::bodies_read_back;
 pub use pull::pull_bytes;
 pub use push::push_bytes;
 pub use quoted::push_quoted;
-pub use writer::PushWriter;
+pub use writer::{PushWriter, mutation_bytes};

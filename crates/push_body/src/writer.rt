@@ -70,6 +70,15 @@ impl<'i> PushWriter<'i> {
     }
 }
 
+/// A mutation as a push lists it, a JSON object (Replicache, Push Endpoint Reference, version 1).
+pub fn mutation_bytes(alloc: Global, mutation: &Mutation) -> Result<Vec<u8>, AllocError>
+    ensures { IfOk result (λ v. v.items ≡ mutation_text mutation.now) }
+{
+    let mut body = Body::new(alloc, room_for(mutation))?;
+    push_mutation(&mut body, mutation)?;
+    Ok(body.into_bytes())
+}
+
 // About how many bytes a mutation takes: room that is taken at once. What doesn't fit makes the body grow.
 fn room_for(mutation: &Mutation) -> usize {
     BYTES_AROUND

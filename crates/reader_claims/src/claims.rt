@@ -210,6 +210,7 @@ impl Claims {
     /// where no ordinary one was free or could be given, but for those that other seats were
     /// quicker to take. `None` comes after a whole pass. On the way the seat stores no pin, raises
     /// nothing, and settles, withdraws and retires no slot: it shuts none by itself.
+    #[inline(always)]
     pub fn take_slot(&self, seat: &mut ClaimSeat, kind: Kind) -> Option<Slot>
         requires { seat.old.table ≡ self.now }
         ensures table { seat.new.table ≡ seat.old.table }

@@ -241,6 +241,7 @@ impl Words {
 
     // One pass: the epoch and the pins, the ordinary slots from `begin` on and then those before,
     // and the reserved ones if the kind has them.
+    #[inline(never)]
     fn pass(&self, reader: &mut Reader, begin: u32, kind: Kind) -> Option<u32>
         requires { (reader_id reader.old ≡ words_id self.now) × (begin ≤ first_reserved self.now.sizes) }
         ensures table { reader_id reader.new ≡ reader_id reader.old }
@@ -309,6 +310,7 @@ impl Words {
 
     // Takes the first slot that a plain load finds free or open, and stops at the first that is retired and not known
     // as open.
+    #[inline(always)]
     fn quick(&self, reader: &mut Reader, from: u32, end: u32) -> Look
         requires { (reader_id reader.old ≡ words_id self.now) × (end ≤ self.now.sizes.slots) }
         ensures table { reader_id reader.new ≡ reader_id reader.old }
@@ -348,6 +350,7 @@ impl Words {
     }
 
     // The same at a few slots from `start` on, and then at spread places.
+    #[inline(always)]
     fn quick_few(&self, reader: &mut Reader, start: u32, end: u32) -> Look
         requires { (reader_id reader.old ≡ words_id self.now) × (start ≤ end) × (end ≤ self.now.sizes.slots) }
         ensures table { reader_id reader.new ≡ reader_id reader.old }
@@ -363,6 +366,7 @@ impl Words {
     }
 
     // The same from `start` to the end, and then from 0.
+    #[inline(never)]
     fn quick_whole(&self, reader: &mut Reader, start: u32, end: u32) -> Look
         requires { (reader_id reader.old ≡ words_id self.now) × (start ≤ end) × (end ≤ self.now.sizes.slots) }
         ensures table { reader_id reader.new ≡ reader_id reader.old }
@@ -378,6 +382,7 @@ impl Words {
     }
 
     // The same at a few places first, and then at all.
+    #[inline(always)]
     fn quick_round(&self, reader: &mut Reader, start: u32, end: u32) -> Look
         requires { (reader_id reader.old ≡ words_id self.now) × (start ≤ end) × (end ≤ self.now.sizes.slots) }
         ensures table { reader_id reader.new ≡ reader_id reader.old }
@@ -394,6 +399,7 @@ impl Words {
 
     // Takes a slot: a free one near `start`, or what a pass finds. Where the last slot was a reserved
     // one no ordinary one was free, and a reserved one is had by a pass alone.
+    #[inline(always)]
     pub(crate) fn find(&self, reader: &mut Reader, start: u32, kind: Kind) -> Option<u32>
         requires { reader_id reader.old ≡ words_id self.now }
         ensures table { reader_id reader.new ≡ reader_id reader.old }

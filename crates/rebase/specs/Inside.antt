@@ -3,3 +3,4 @@ pub mod Keeping
 pub mod Watching
 pub mod Made
 pub mod Shown
+pub mod Reading

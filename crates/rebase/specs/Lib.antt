@@ -1,7 +1,7 @@
 -- What a client is told. Read Clients (what a call leaves: `Acts`, `Looks`, `Stays`, `Reads`) and Calls (`reply_to`:
 -- the right reply to each call; lists of calls); and Running for changes whose mutators the caller runs. Configs,
--- Queries, Asking, Replies, Watching, Readers and Asked are where these cite them. Below it stand `answered` and
--- `group_history`: read those first.
+-- Queries, Asking, Replies, Watching, Readers and Asked are where these cite them; Counting hands on words of
+-- `reader_claims`. Below it stand `answered` and `group_history`: read those first.
 pub mod Configs
 pub mod Clients
 pub mod Queries
@@ -12,5 +12,6 @@ pub mod Watching
 pub mod Readers
 pub mod Running
 pub mod Asked
+pub mod Counting
 -- Words that only private clauses of this crate use.
 pub mod Inside

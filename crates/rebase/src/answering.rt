@@ -96,7 +96,7 @@ impl<M: Mutators, S: Store<M>> Client<M, S> {
     {
         match call {
             Call::Refresh => self.refresh(tries).map(Reply::Id),
-            Call::PushBody => self.push_body(tries).map(Reply::Body),
+            Call::PushBody => self.push_body(0, tries).map(Reply::Body),
             Call::BeginPull => self.begin_pull(tries).map(Reply::Ticket),
             Call::Mutate(m) => self
                 .try_mutate(m.name, m.args, m.time, tries)

@@ -35,7 +35,7 @@ pub enum Call<'a> {
     Cookie,
     /// `Client::refresh`: `Reply::Id`.
     Refresh,
-    /// `Client::push_body`: `Reply::Body`.
+    /// `Client::push_body` of all that is pending: `Reply::Body`.
     PushBody,
     /// `Client::begin_pull`: `Reply::Ticket`.
     BeginPull,

@@ -3,7 +3,7 @@
 //! Its queries have their point where they look at the head: each pins the seat first, and takes the pin
 //! away before it returns.
 ghost use Rattle.std.specs.Prelude.{◌≡◌, ◌<◌, ◌≤◌, ◌^◌, true, Ok, Err, Some, None, IfOk, IfErr};
-ghost use Rattle.std.specs.Prelude.{[], ◌∷◌, ◌++◌, length};
+ghost use Rattle.std.specs.Prelude.{[], ◌∷◌, ◌++◌, drop, length};
 ghost use Rattle.std.specs.Arc.{arc_value};
 ghost use mathlib.Core.List.{IsPrefix};
 ghost use Rattle.group_history.specs.declared.refusals.Refusal.TheVariants.{NoMemory, Busy};
@@ -11,7 +11,7 @@ ghost use Rattle.group_history.specs.Record.{after};
 ghost use Rattle.group_history.specs.Refs.{stamp_of};
 ghost use Rattle.group_history.specs.Spelling.{map_at};
 ghost use Rattle.group_history.specs.State.{last_id, view_of};
-ghost use Rattle.head_word.specs.Books.{drawn, record_of};
+ghost use Rattle.head_word.specs.Books.{drawn, last_move, record_of};
 ghost use Rattle.head_word.specs.Marks.{known};
 ghost use Rattle.chunk_slots.specs.Seats.{IsIdle};
 ghost use Rattle.commit_graph.specs.LastIds.{last_at};
@@ -94,6 +94,7 @@ impl<M: Means, S: Slots<M>> Client<M, S> {
             self.new.seat.mark.log) }
         ensures base { IfOk result (λ at. IsBase M.means self.new.seat.mark at
             (after (record_of self.new.seat.mark.log))) }
+        ensures last { IfOk result (λ at. at ≡ last_move self.new.seat.mark.log) }
         ensures busy { IfErr result (λ e. (e ≡ Busy) × S.reused × (self.new.seat.mark ≡ self.old.seat.mark)) }
         ensures stays { IfErr result (λ _. Stays S.reused self.old self.new) }
     {
@@ -151,18 +152,19 @@ impl<M: Means, S: Slots<M>> Client<M, S> {
         find_last(&self.group, &mut self.seat, &self.id, Some(before), tries)
     }
 
-    /// The body of a push of all that is pending in the group, whichever client made it, the oldest first (Replicache,
-    /// Push Endpoint Reference, version 1). There is one also where nothing is pending, or where the group is closed.
-    /// Refused with `NoMemory`, `Gone`, and over slots that are used again `Busy`. Nothing is changed.
-    pub fn push_body(&mut self, tries: u32) -> Result<Vec<u8>, Refusal>
+    /// The body of a push of what is pending in the group, whichever client made it, the oldest first (Replicache, Push
+    /// Endpoint Reference, version 1), but for the oldest `skip` of them: with 0 of all. There is one also where none
+    /// is left, or where the group is closed. Refused with `NoMemory`, `Gone`, and over slots that are used again
+    /// `Busy`. Nothing is changed.
+    pub fn push_body(&mut self, skip: usize, tries: u32) -> Result<Vec<u8>, Refusal>
         ensures answer { IsLinearized M.means tries self.old.seat.mark self.new.seat.mark (map_ok
             (λ body. body.items) result)
-            no_change (λ s. Ok (push_text self.old.group.identity s.pending)) }
+            no_change (λ s. Ok (push_text self.old.group.identity (drop skip s.pending))) }
         ensures err { IfErr result (IsMissedOrDry S.reused) }
         ensures stays { Stays S.reused self.old self.new }
     {
         let at = self.pin_and_load(tries)?;
-        let body = body_at(&self.here(at, tries));
+        let body = body_at(&self.here(at, tries), skip);
         self.unpin();
         body
     }
@@ -220,6 +222,7 @@ impl<M: Means, S: Slots<M>> Client<M, S> {
         ensures reads { IfOk result (λ _. Reads S.reused tries self.old self.new) }
         ensures point { IfOk result (λ at. IsPoint M.means self.old.seat.mark self.new.seat.mark None at.log
             × (at.book ≡ self.new.seat.mark.book)) }
+        ensures seen { IfOk result (λ at. at ≡ known self.new.seat.mark.book self.new.seat.mark.log None) }
         ensures missed { IfErr result (IsStoreRefusal S.reused) }
         ensures stays { IfErr result (λ _. Stays S.reused self.old self.new) }
     {

@@ -20,6 +20,9 @@
 //! root that it met before, and where all chunks are the same in which its rows lie, a poll reads no row. A seat that
 //! comes back needs the room that it left, so `back` takes no memory. A list of calls says of each what `make_call`
 //! says of one (`IsMade`), but that the client rests in between.
+//! A reader that is kept (`Reader`) has its client: its model is the client's, and its type keeps that the pin is held,
+//! so its commit is had without a refusal. A group's moment is the stamp of the commit where its head is: moves go to
+//! ever greater stamps, so two states are told apart by one look each, without a pin.
 //! A change whose mutators the caller runs (`Asking`) has its client, so no other call is made meanwhile, and keeps the
 //! pin. It can't be dropped: a drop of what is owned has no clause, so a body that left the pin would be proved. What
 //! was known when its call began is no data of the type, so its clauses hold of each client by which it began
@@ -33,7 +36,9 @@ mod changes;
 mod client;
 mod config;
 mod group;
+mod moments;
 mod queries;
+mod readers;
 mod reading;
 mod seats;
 mod tickets;
@@ -43,6 +48,7 @@ pub use asking::{Asked, Asking};
 pub use calls::{Call, Mutate, Reply};
 pub use chunk_slots::{Append, Arena};
 pub use client::Client;
+pub use commit_graph::StoreNodes;
 pub use config::{Config, MIN_SLOTS, OutOfRange};
 pub use group::Group;
 pub use group_history::{
@@ -52,10 +58,11 @@ pub use group_history::{
 pub use head_word::Mark;
 pub use push_body::Identity;
 pub use reader_claims::SlotCounts;
+pub use readers::Reader;
 pub use reading::ReadTx;
 pub use replays::{Has, Runs};
 pub use seats::{Seat, Seats};
 pub use tickets::Ticket;
-pub use transactions::TakesRows;
+pub use transactions::{ReadTx as CommitTx, TakesRows};
 pub use uuid::Uuid;
 pub use watching::{Polled, Rows, Watch};

@@ -7,11 +7,12 @@ ghost use Rattle.group_history.specs.Record.{after};
 ghost use Rattle.group_history.specs.Refs.{stamp_of};
 ghost use Rattle.group_history.specs.Spelling.{Spells, map_at, version_of};
 ghost use Rattle.group_history.specs.State.{view_of};
-ghost use Rattle.head_word.specs.Books.{drawn, record_of};
+ghost use Rattle.head_word.specs.Books.{drawn, last_move, record_of};
 ghost use Rattle.head_word.specs.Marks.{known};
 ghost use Rattle.map_chunks.specs.Sinks.{HasMore, HasBegun};
 ghost use Rattle.commit_graph.specs.Seats.{IsReading};
 ghost use Rattle.group_steps.specs.Missing.{IsStoreRefusal, IsMissedOrDry};
+ghost use Rattle.transactions.specs.Reads.{pulled_version};
 ghost use Rattle.rebase.specs.Clients.{Stays};
 ghost use Rattle.rebase.specs.Inside.Watching.{CoversView};
 
@@ -41,7 +42,7 @@ impl<M: Means> Model for Point<M> {
     ghost use Rattle.group_history.specs.Refs.{stamp_of};
     ghost use Rattle.group_history.specs.Spelling.{Spells, map_at};
     ghost use Rattle.group_history.specs.State.{view_of};
-    ghost use Rattle.head_word.specs.Books.{record_of, drawn};
+    ghost use Rattle.head_word.specs.Books.{record_of, drawn, last_move};
     ghost use Rattle.head_word.specs.Marks.{Known};
     ghost use Rattle.head_word.specs.contracts.entry.Entry as entry;
 
@@ -52,7 +53,8 @@ impl<M: Means> Model for Point<M> {
     ghost view = { λ p. p.mark };
 
     ghost invariant = { λ p. Spells M.means (drawn p.mark.log) (stamp_of p.head) (after (record_of p.mark.log))
-        × (map_at (drawn p.mark.log) (stamp_of p.root) ≡ Some (view_of M.means (after (record_of p.mark.log)))) };
+        × (map_at (drawn p.mark.log) (stamp_of p.root) ≡ Some (view_of M.means (after (record_of p.mark.log))))
+        × (p.head ≡ last_move p.mark.log) };
 }
 
 impl<M: Means> Point<M> {
@@ -60,6 +62,7 @@ impl<M: Means> Point<M> {
         requires head { Spells M.means (drawn mark.now.log) (stamp_of head) (after (record_of mark.now.log)) }
         requires root { map_at (drawn mark.now.log) (stamp_of root)
             ≡ Some (view_of M.means (after (record_of mark.now.log))) }
+        requires last { head ≡ last_move mark.now.log }
         ensures { result ≡ known mark.now.book mark.now.log None }
     {
         Point {
@@ -67,6 +70,14 @@ impl<M: Means> Point<M> {
             head,
             root,
         }
+    }
+
+    // The commit itself, where the head was.
+    pub(crate) fn head(&self) -> Ref
+        ensures last { result ≡ last_move self.now.log }
+        ensures spelled { Spells M.means (drawn self.now.log) (stamp_of result) (after (record_of self.now.log)) }
+    {
+        self.head
     }
 
     // The root of the map there.
@@ -248,6 +259,18 @@ impl<'a, M: Means, S: Slots<M>> ReadTx<'a, M, S> {
     {
         let mut tx = self.commit()?;
         Ok(tx.closed()?)
+    }
+
+    /// The commit without what is pending: its queries answer what the server last sent (Replicache, How It Works, "The
+    /// Client View"). Two looks. Takes no memory.
+    pub fn pulled(&self) -> Result<CommitTx<StoreNodes<'_, M, S>>, Refusal>
+        ensures version { IfOk result (λ tx. tx.version
+            ≡ pulled_version (version_of M.means (read_by self.now))) }
+        ensures contents { IfOk result (λ tx. IsPrefix (drawn (seen_by self.now).log) tx.contents) }
+        ensures missed { IfErr result (IsStoreRefusal S.reused) }
+    {
+        let tx = self.commit()?;
+        Ok(tx.pulled()?)
     }
 
     /// Ends the reading, and takes the pin away, as dropping the reader does. Takes no memory.

@@ -7,6 +7,7 @@ ghost use Rattle.std.specs.List.{All};
 ghost use Rattle.group_history.specs.declared.refusals.Refusal.TheVariants as refusal;
 ghost use Rattle.head_word.specs.Marks.{HasSeat};
 ghost use Rattle.chunk_slots.specs.Seats.{IsIdle};
+ghost use Rattle.commit_graph.specs.Seats.{GroupId, IsSeatOf};
 ghost use Rattle.rebase.specs.Clients.{AreSeatsOf};
 
 use chunk_slots::Slots;
@@ -102,6 +103,8 @@ impl<M: Means, S: Slots<M>> Seats<M, S> {
     pub fn back(&mut self, seat: Seat<M, S>)
         requires room { length self.old.free < self.old.room }
         ensures free { self.new.free ≡ self.old.free ++ seat ∷ [] }
+        ensures group { (group : GroupId) → AreSeatsOf group self.old.free → IsSeatOf group seat
+            → AreSeatsOf group self.new.free }
         ensures capacity { self.old.room ≤ self.new.room }
     {
         let _ = self.free.push(seat);

@@ -6,6 +6,7 @@
 //! so the rows are. In both cases none is read. The type keeps that the rows are those of the root and lie in the
 //! chunks (`AreRead`), in what was seen of the book when they were read; of that and what a client has seen one begins
 //! the other.
+ghost use Rattle.std.specs.Option.{option_copied};
 ghost use Rattle.std.specs.Prelude.{◌≡◌, ◌⊎◌, Some, None, Ok, true, IfOk, IfErr, IfNone, IfSome};
 ghost use Rattle.std.specs.Cmp as laws;
 ghost use mathlib.Core.List.{IsPrefix};
@@ -162,6 +163,16 @@ impl<M: Means> Watch<M> {
             scan,
             mark: seen.copy(),
             last: None,
+        }
+    }
+
+    /// The rows that it answered last; none before the first poll.
+    pub fn rows(&self) -> Option<&Rows>
+        ensures { option_copied result ≡ self.now.last }
+    {
+        match &self.last {
+            Some(told) => Some(&told.rows),
+            None => None,
         }
     }
 

@@ -36,6 +36,7 @@ pub struct Tip {
 }
 
 /// Drafts a commit over a basis, with the map of this root.
+#[inline(always)]
 pub(crate) fn add_over(
     draft: &mut Draft,
     basis: Tip,

@@ -20,7 +20,7 @@ use crate::arguments::{
     Args, args_of, json_of, text_alone, text_and_number, text_and_text, text_and_value,
 };
 use crate::values::{decimal, number_in, quoted, text_there};
-use group_history::{Json, Means, Mutators, Ran, Reason, Stop, Update, WriteView};
+use group_history::{Json, Means, Mutators, Ran, Reason, Stop, Update, WriteView, is_word};
 use std::alloc::Global;
 
 /// The mutators of scripts: `set`, `del`, `incr`, `append` and `tag` (`docs/SCRIPT.md`). Any other name is unknown.
@@ -64,10 +64,10 @@ fn run_named<V: WriteView>(
         (V.contents view.new)) }
     ensures stopped { IfErr result (MayStop V.stops) }
 {
-    if name == "set" {
+    if is_word(name, b"set") {
         return set(alloc, args, view);
     }
-    if name == "incr" {
+    if is_word(name, b"incr") {
         return incr(alloc, args, view);
     }
     run_other(alloc, name, args, why, view)

@@ -3,7 +3,7 @@ use Rattle.std.proofs.Common.{◌≡◌, ◌⊎◌, ◌+◌, ◌++◌, ℕ, inl,
 use Rattle.std.proofs.Common.{Ok, Err, refl, sym, ap, subst, ◌∙◌, filter, length}
 use Rattle.std.proofs.lemmas.List.{append-nil}
 use Rattle.std.proofs.lemmas.Option.{get_or_from_slice_get, slice_get_within}
-use Rattle.std.specs.Prelude.{option_map}
+use Rattle.std.specs.Prelude.{drop, option_map}
 use Rattle.group_history.specs.declared.changes.Change.{Change}
 use Rattle.group_history.specs.declared.scans.Scan.{Scan}
 use Rattle.group_history.specs.declared.refusals.Refusal.{Refusal}
@@ -40,8 +40,10 @@ use Rattle.client_desk.specs.declared.calls.Keep.TheVariants.{At as AtNumber}
 use Rattle.client_desk.specs.declared.faults.Fault.{Fault}
 use Rattle.client_desk.specs.declared.faults.Fault.TheVariants as fault
 use Rattle.client_desk.specs.declared.outcomes.Outcome.TheVariants.{Done, Faulty, Number}
-use Rattle.client_desk.specs.Answers.{At, Begins, ByClient, IsBegun, Lacks, Polls, Reads, Refreshes}
-use Rattle.client_desk.specs.Answers.{Rule, Watches, made_room, tries}
+use Rattle.client_desk.specs.Answers.{AsksAs, At, Begins, ByClient, IsBegun, Lacks, Polls, Reads, Refreshes}
+use Rattle.client_desk.specs.Answers.{Asks as Queries}
+use Rattle.client_desk.specs.Answers.{Rule, Watches, absent, made_room, tries}
+use Rattle.client_desk.specs.Inside.Sitting.{IsCalm}
 use Rattle.client_desk.specs.Calls.{AnswersCalm, MayAnswerAt}
 use Rattle.client_desk.specs.Kept.{IsNumberFor, kept_at}
 use Rattle.client_desk.specs.Learning.{LearnsAt, sight_of}
@@ -126,7 +128,7 @@ ended_means (Ok e) = refl
 ended_means (Err e) = refl
 
 module _ (means : Meanings) (seen : Option Known) (c d : ClientState) (b a : PlaceState) (t : Told)
-    (sat : b.client ≡ Some c) (calm : b.asking ≡ None) (sits : a.client ≡ Some d)
+    (sat : b.client ≡ Some c) (calm : IsCalm b) (sits : a.client ≡ Some d)
     (exact : IsExact means seen c.seat.mark d.seat.mark) where
   abbrev now : State
   now = after (record_seen seen)
@@ -186,13 +188,13 @@ module _ (means : Meanings) (seen : Option Known) (c d : ClientState) (b a : Pla
   by_calm : (made : Call) (is : Plain) → (AnswersCalm (λ name. true) means made b t a → Is is)
       → MayAnswerAt (λ name. true) means made b.asking b t a → Is is
   by_calm made is each h =
-      elim (subst (λ x. MayAnswerAt (λ name. true) means made x b t a) calm h) [
+      elim (subst (λ x. MayAnswerAt (λ name. true) means made x b t a) calm.0 h) [
         | inl dry ↦ lacks is (made_room made b) (room_client made) dry.1
         | inr done ↦ each done
       ]
 
   by_client : (rule : ClientState → Rule) → ByClient rule b t a → rule c b t a
-  by_client rule h = subst (λ o. At o fault.NoClient rule b t a) sat h
+  by_client rule h = subst (λ o. At o (absent b.reading) rule b t a) sat h
 
   by_kept : {X : Type 0} (x : Option X) (none : Fault) (rule : X → Rule) (is : X → Plain)
       → ((y : X) → rule y b t a → Is (is y)) → At x none rule b t a → Is (if_kept x none is)
@@ -200,11 +202,11 @@ module _ (means : Meanings) (seen : Option Known) (c d : ClientState) (b a : Pla
   by_kept None none rule is each h =
       only_told (told_alone (Faulty none)) h.0 (still c (ap (λ (q : PlaceState). q.client) h.1 ∙ sat) refl)
 
-  by_reading : {X : Type 0} (tell : X → Told) (right : State → X) → ByClient (Reads tell right means) b t a
-      → Is (looked (tell (right now)))
+  by_reading : {X : Type 0} (tell : X → Told) (right : ClientState → State → X) → Queries tell right means b t a
+      → Is (looked (tell (right c now)))
   by_reading tell right h =
-      let r = by_client (Reads tell right means) h in
-      by_reply tries tell (looked (tell (right now))) r.1.reply no_change (λ s. Ok (right s)) r.0
+      let r = by_client (λ x. Reads tell (right x) means x) (subst (λ o. AsksAs tell right means o b t a) calm.1 h) in
+      by_reply tries tell (looked (tell (right c now))) r.1.reply no_change (λ s. Ok (right c s)) r.0
       (ap (λ (q : PlaceState). q.client) r.2) r.1.answer r.1.told refl refl
 
   by_query : (q : Query) (made : Call) → AsksQuery q made → MayAnswerWaiting means made b t a
@@ -212,37 +214,34 @@ module _ (means : Meanings) (seen : Option Known) (c d : ClientState) (b a : Pla
   by_query (query.Get key) (call.Get k) asked h =
       subst (λ x. Is (looked (value_told (get_at means now x)))) asked
       (by_calm (call.Get k) (looked (value_told (get_at means now k.now)))
-      (by_reading value_told (λ s. get_at means s k.now)) h)
+      (by_reading value_told (λ x s. get_at means s k.now)) h)
   by_query (query.Get key) other asked h = absurd asked
   by_query (query.Has key) (call.Has k) asked h =
       subst (λ x. Is (looked (is_told (has_at means now x)))) asked
       (by_calm (call.Has k) (looked (is_told (has_at means now k.now)))
-      (by_reading is_told (λ s. has_at means s k.now)) h)
+      (by_reading is_told (λ x s. has_at means s k.now)) h)
   by_query (query.Has key) other asked h = absurd asked
   by_query (query.Scan scan) (call.Scan k) asked h =
       subst (λ x. Is (looked (rows_told (view_rows means now x)))) asked
       (by_calm (call.Scan k) (looked (rows_told (view_rows means now k.now)))
-      (by_reading rows_told (λ s. view_rows means s k.now)) h)
+      (by_reading rows_told (λ x s. view_rows means s k.now)) h)
   by_query (query.Scan scan) other asked h = absurd asked
   by_query query.Empty call.Empty asked h =
-      by_calm call.Empty (looked (is_told (is_empty_at means now))) (by_reading is_told (λ s. is_empty_at means s)) h
+      by_calm call.Empty (looked (is_told (is_empty_at means now))) (by_reading is_told (λ x s. is_empty_at means s)) h
   by_query query.Empty other asked h = absurd asked
   by_query query.Closed call.Closed asked h =
-      by_calm call.Closed (looked (is_told now.closed)) (by_reading is_told (λ s. s.closed)) h
+      by_calm call.Closed (looked (is_told now.closed)) (by_reading is_told (λ x s. s.closed)) h
   by_query query.Closed other asked h = absurd asked
   by_query query.Pending call.Pending asked h =
-      by_calm call.Pending (looked (pending_told now.pending)) (by_reading pending_told (λ s. s.pending)) h
+      by_calm call.Pending (looked (pending_told now.pending)) (by_reading pending_told (λ x s. s.pending)) h
   by_query query.Pending other asked h = absurd asked
   by_query query.Cookie call.Cookie asked h =
-      by_calm call.Cookie (looked (cookie_told now.cookie)) (by_reading cookie_told (λ s. s.cookie)) h
+      by_calm call.Cookie (looked (cookie_told now.cookie)) (by_reading cookie_told (λ x s. s.cookie)) h
   by_query query.Cookie other asked h = absurd asked
-  by_query query.Push call.Push asked h =
-      by_calm call.Push (looked (bytes_told (push_text c.group.identity now.pending)))
-      (λ done.
-      let r = by_client (λ x. Reads bytes_told (λ s. push_text x.group.identity s.pending) means x) done in
-      by_reply tries bytes_told (looked (bytes_told (push_text c.group.identity now.pending))) r.1.reply no_change
-      (λ s. Ok (push_text c.group.identity s.pending)) r.0 (ap (λ (q : PlaceState). q.client) r.2) r.1.answer
-      r.1.told refl refl) h
+  by_query query.Push (call.Push skip) asked h =
+      subst (λ k. Is (looked (bytes_told (push_text c.group.identity (drop k now.pending))))) asked
+      (by_calm (call.Push skip) (looked (bytes_told (push_text c.group.identity (drop skip now.pending))))
+      (by_reading bytes_told (λ x s. push_text x.group.identity (drop skip s.pending))) h)
   by_query query.Push other asked h = absurd asked
 
   by_begun : (n : ℕ) (keep : Keep) (reply : Result Begun Refusal) (next : ClientState) (p : PlaceState)
@@ -388,7 +387,7 @@ keeps means s x (Some other) place mid c m sat sits h =
 
 -- So a line is, that is exact.
 pub plain_line : (means : Meanings) (sights : List (Option Known)) (x : Command) (seen : Option Known)
-    (place mid next : PlaceState) (c : ClientState) (t : Told) → place.client ≡ Some c → place.asking ≡ None
+    (place mid next : PlaceState) (c : ClientState) (t : Told) → place.client ≡ Some c → IsCalm place
     → Learns seen place mid → MayTell means sights x mid t next → IsExactAt means seen mid next
     → IsPlain means x place t (record_seen seen) (record_seen (sight_at next))
 plain_line means sights x seen place mid next c t sat calm learnt may exact =

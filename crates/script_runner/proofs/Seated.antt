@@ -12,7 +12,8 @@ use Rattle.rebase.specs.Clients.{ClientState, Grouped}
 use Rattle.client_desk.specs.declared.calls.Call.{Call}
 use Rattle.client_desk.specs.declared.calls.Call.TheVariants as call
 use Rattle.client_desk.specs.Learning.{LearnsAt}
-use Rattle.client_desk.specs.Places.{PlaceState}
+use Rattle.client_desk.specs.Places.{PlaceState, with_client}
+use Rattle.client_desk.specs.Inside.Sitting.{IsCalm}
 use Rattle.client_desk.specs.Told.{Told}
 use Rattle.client_desk.proofs.Remaining.{IsSitting, remains}
 use Rattle.script_parser.specs.Context.{Lines}
@@ -26,7 +27,7 @@ use Rattle.script_runner.specs.Runs.{IsNew}
 use Rattle.script_runner.specs.Inside.Records.{AreSeated, IsSeated}
 use Rattle.client_desk.specs.Kept.{kept_at}
 
--- no command of a script sits down or leaves
+-- no command of a script sits down or leaves, or begins a reading
 
 sits_no_query : (q : Query) (id : _) → AsksQuery q (call.Sit id) → ⊥
 sits_no_query (query.Get key) id h = h
@@ -68,9 +69,36 @@ leaves_none (command.Learn place) h = h
 leaves_none (command.Watch n scan) h = h
 leaves_none (command.Poll n) h = h
 
+begins_no_query : (q : Query) → AsksQuery q call.BeginRead → ⊥
+begins_no_query (query.Get key) h = h
+begins_no_query (query.Has key) h = h
+begins_no_query (query.Scan scan) h = h
+begins_no_query query.Empty h = h
+begins_no_query query.Closed h = h
+begins_no_query query.Pending h = h
+begins_no_query query.Cookie h = h
+begins_no_query query.Push h = h
+
+begins_none : (c : Command) → Asks c call.BeginRead → ⊥
+begins_none (command.Query q) h = begins_no_query q h
+begins_none (command.Begin n) h = h
+begins_none (command.End n body) h = h
+begins_none (command.Mutate m) h = h
+begins_none command.Refresh h = h
+begins_none (command.Learn place) h = h
+begins_none (command.Watch n scan) h = h
+begins_none (command.Poll n) h = h
+
+-- a place with another client is as calm
+pub calm_with : (before after : PlaceState) (c : ClientState) → after ≡ with_client c before → IsCalm before
+    → IsCalm after
+calm_with before after c is calm =
+    (ap (λ (p : PlaceState). p.asking) is ∙ calm.0, ap (λ (p : PlaceState). p.reading) is ∙ calm.1)
+
 pub asks_sitting : (c : Command) (made : Call) → Asks c made → IsSitting made
 asks_sitting c (call.Sit id) h = sits_none c id h
 asks_sitting c call.Leave h = leaves_none c h
+asks_sitting c call.BeginRead h = begins_none c h
 asks_sitting c other h = tt
 
 -- a beginning of a beginning
@@ -81,7 +109,7 @@ begins xs ys zs p q =
 module _ (count commit number : ℕ) where
   -- the same client, which knows no less
   pub later : (before after : PlaceState) (was : IsSeated count commit number before) (next : ClientState)
-      → after.client ≡ Some next → after.asking ≡ None → IsSameSeat was.client.seat next.seat
+      → after.client ≡ Some next → IsCalm after → IsSameSeat was.client.seat next.seat
       → IsSeated count commit number after
   later before after was next sits calm same = record {
     client = next;
@@ -98,7 +126,7 @@ module _ (count commit number : ℕ) where
   learns (Some seen) before after h was =
       let l = subst (λ o. LearnsAt o seen before after) was.sits h in
       later before after was l.next (ap (λ (p : PlaceState). p.client) l.left)
-      (ap (λ (p : PlaceState). p.asking) l.left ∙ was.calm) l.looked.seat
+      (calm_with before after l.next l.left was.calm) l.looked.seat
 
   makes : (means : Meanings) (c : Command) (before : PlaceState) (t : Told) (after : PlaceState)
       → Makes means c before t after → IsSeated count commit number before → IsSeated count commit number after
@@ -131,7 +159,7 @@ module _ (count commit number : ℕ) where
         seat = same.seat ∙ ap (λ (m : Known). m.seat) new.mark;
         opened = subst (λ (log : List Entry). IsPrefix log c.seat.mark.log) (ap (λ (m : Known). m.log) new.mark)
             same.seen;
-        calm = ap (λ (q : PlaceState). q.asking) new.sat.left;
+        calm = (ap (λ (q : PlaceState). q.asking) new.sat.left, ap (λ (q : PlaceState). q.reading) new.sat.left);
       }
 
 module _ (means : Meanings) (count commit : ℕ) where

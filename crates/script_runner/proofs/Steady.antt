@@ -20,6 +20,7 @@ use Rattle.push_body.specs.declared.identities.Identity.{Identity}
 use Rattle.rebase.specs.Clients.{ClientState}
 use Rattle.client_desk.specs.Kept.{kept_at}
 use Rattle.client_desk.specs.Learning.{LearnsAt, sight_of}
+use Rattle.client_desk.specs.Inside.Sitting.{IsCalm}
 use Rattle.client_desk.specs.Places.{PlaceState}
 use Rattle.client_desk.specs.Told.{Told}
 use Rattle.client_desk.proofs.Remaining.{remains}
@@ -39,7 +40,7 @@ use Rattle.script_runner.specs.Inside.Records.{AreSeated, IsSeated}
 use Rattle.script_runner.proofs.Gathering.{still_same}
 use Rattle.script_runner.proofs.Moves.{at_point, counted_book, left_alone, moves, moves_grow, moves_opened, none_opened}
 use Rattle.script_runner.proofs.Moves.{others_grow, own_within, record_same}
-use Rattle.script_runner.proofs.Seated.{asks_sitting, begins, begun, later}
+use Rattle.script_runner.proofs.Seated.{asks_sitting, begins, begun, calm_with, later}
 
 -- ---- at the beginning
 
@@ -83,21 +84,21 @@ steady_new means identity lines players new =
 
 -- ---- a line
 
--- The client learnt what the lines before have seen: it is on its seat still, made no move, and no run is asked for.
+-- The client learnt what the lines before have seen: it is on its seat still, made no move, and the place is calm.
 pub record HasCaughtUp (c : ClientState) (seen : Option Known) (after : PlaceState) : Type 0 where
   pub client : ClientState
   pub sits : after.client ≡ Some client
-  pub calm : after.asking ≡ None
+  pub calm : IsCalm after
   pub seat : IsSameSeat c.seat client.seat
   pub own : own client.seat.mark ≡ own c.seat.mark
   pub sees : (known : Known) → seen ≡ Some known → IsPrefix known.log client.seat.mark.log
 
 pub caught_up : (c : ClientState) (seen : Option Known) (before after : PlaceState) → before.client ≡ Some c
-    → before.asking ≡ None → Learns seen before after → HasCaughtUp c seen after
+    → IsCalm before → Learns seen before after → HasCaughtUp c seen after
 caught_up c None before after sits calm h = record {
   client = c;
   sits = ap (λ (p : PlaceState). p.client) h ∙ sits;
-  calm = ap (λ (p : PlaceState). p.asking) h ∙ calm;
+  calm = subst IsCalm (sym h) calm;
   seat = record {
     table = refl;
     later = record { book = refl; seat = refl; seen = ([], append-nil c.seat.mark.log) };
@@ -110,7 +111,7 @@ caught_up c (Some seen) before after sits calm h =
     record {
       client = l.next;
       sits = ap (λ (p : PlaceState). p.client) l.left;
-      calm = ap (λ (p : PlaceState). p.asking) l.left ∙ calm;
+      calm = calm_with before after l.next l.left calm;
       seat = l.looked.seat;
       own = l.looked.own;
       sees = λ known is.
@@ -120,9 +121,9 @@ caught_up c (Some seen) before after sits calm h =
 
 -- the client that did a command sits there still, on its seat
 sits_on : (means : Meanings) (sights : List (Option Known)) (c : Command) (m : ClientState) (before : PlaceState)
-    (t : Told) (after : PlaceState) → before.client ≡ Some m → before.asking ≡ None
+    (t : Told) (after : PlaceState) → before.client ≡ Some m → IsCalm before
     → MayTell means sights c before t after
-    → (d : ClientState) × (after.client ≡ Some d) × (after.asking ≡ None) × IsSameSeat m.seat d.seat
+    → (d : ClientState) × (after.client ≡ Some d) × IsCalm after × IsSameSeat m.seat d.seat
 sits_on means sights (command.Learn place) m before t after sits calm h =
     let k = caught_up m (kept_at sights place) before after sits calm h.learnt in (k.client, k.sits, k.calm, k.seat)
 sits_on means sights other m before t after sits calm h =

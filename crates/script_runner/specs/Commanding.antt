@@ -34,7 +34,7 @@ AsksQuery query.Empty call.Empty = ⊤
 AsksQuery query.Closed call.Closed = ⊤
 AsksQuery query.Pending call.Pending = ⊤
 AsksQuery query.Cookie call.Cookie = ⊤
-AsksQuery query.Push call.Push = ⊤
+AsksQuery query.Push (call.Push skip) = skip ≡ 0
 AsksQuery q other = ⊥
 
 -- the mutation that a command asks for

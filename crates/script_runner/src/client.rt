@@ -112,6 +112,6 @@ fn call_of(query: &Query) -> Call<'_>
         Query::Closed => Call::Closed,
         Query::Pending => Call::Pending,
         Query::Cookie => Call::Cookie,
-        Query::Push => Call::Push,
+        Query::Push => Call::Push(0),
     }
 }

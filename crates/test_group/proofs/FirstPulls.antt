@@ -1,6 +1,6 @@
 -- The first pull of a group, where it brings a cookie and nothing else.
-use Rattle.std.proofs.Common.{◌≡◌, ℕ, ◌+◌, ◌<◌, length, Result, Ok, Err, IfOk, List, [], ◌∷◌, ◌++◌, Some, Option, refl}
-use Rattle.std.proofs.Common.{ap, sym, ◌∙◌, subst, arith}
+use Rattle.std.proofs.Common.{◌≡◌, ℕ, ◌+◌, ◌<◌, ◌≤◌, length, Result, Ok, Err, IfOk, List, [], ◌∷◌, ◌++◌, Some, Option}
+use Rattle.std.proofs.Common.{refl, ap, sym, ◌∙◌, subst, arith}
 use Rattle.std.specs.Prelude.{option_and_then, option_map}
 use Rattle.std.specs.FinMap as finite
 use Rattle.std.specs.declared.cmp.Ordering.TheVariants.{Greater}
@@ -27,7 +27,7 @@ use Rattle.head_word.specs.declared.lost.Lost.{Lost}
 use Rattle.head_word.specs.Books.{drafted, drawn, next_stamp, opening, opened_at, seats_of, StartsOpened}
 use Rattle.head_word.specs.Books.{IsChangeFrom}
 use Rattle.test_group.specs.Trials.{no_mutators, bare_pull, SpellsBare}
-use Rattle.head_word.proofs.Books.{drawn_more}
+use Rattle.head_word.proofs.Books.{drawn_more, next_more}
 use Rattle.head_word.proofs.Stepping.{opening_spells, spells_from, starts_from, starts_with}
 
 -- in every book the leaf of stamp 0 is the empty map
@@ -80,28 +80,38 @@ bare_accepted cookie above = (
 
 -- and follows the opening commit
 pub bare_follows : (log : List Entry) (cookie : Cookie) (base new : Ref) → StartsOpened log → stamp_of base ≡ 1
-    → order_cmp cookie.order order.Null ≡ Greater → SpellsBare log (stamp_of new) cookie
+    → stamp_of base < stamp_of new → order_cmp cookie.order order.Null ≡ Greater → SpellsBare log (stamp_of new) cookie
     → IsChangeFrom no_mutators (drawn log) base new (bare_pull cookie)
-bare_follows log cookie base new starts at_opening above spells =
+bare_follows log cookie base new starts at_opening later above spells =
     let known : Spells no_mutators (drawn log) 1 opening_state = spells_from no_mutators
     (opening (seats_of log) (opened_at log)) log 1 opening_state (starts_with log starts)
     (opening_spells no_mutators (seats_of log) (opened_at log)) in
     record {
       state = opening_state;
+      later = later;
       before = subst (λ k. Spells no_mutators (drawn log) k opening_state) (sym at_opening) known;
       accepted = bare_accepted cookie above;
       then = spells;
     }
+
+-- the opening drew two stamps
+stamps_opened : (log : List Entry) → StartsOpened log → 2 ≤ next_stamp log
+stamps_opened log starts =
+    let begun = starts_with log starts in
+    let first = opening (seats_of log) (opened_at log) in
+    let two : next_stamp first ≡ 2 = refl in
+    omega (arith, two, next_more first begun.0, ap next_stamp begun.1)
 
 -- a draft that was drawn is the snapshot's
 pub bare_drawn : (result : Result ℕ Lost) (old new : List Entry) (by : Option ℕ) (cookie : Cookie) (root : Ref)
     (nodes : List (Node Child)) → StartsOpened old → stamp_of root ≡ 0 → nodes ≡ bare_node cookie root ∷ []
     → IfOk result (λ first. (log : List Entry) × IsPrefix old log × (next_stamp log ≡ first)
     × (new ≡ log ++ drafted by first nodes ∷ [])) → IfOk result (λ first. first + length nodes < stamps)
-    → IfOk result (λ first. (first < stamps) × SpellsBare new first cookie)
+    → IfOk result (λ first. (1 < first) × (first < stamps) × SpellsBare new first cookie)
 bare_drawn (Err e) old new by cookie root nodes starts at_leaf is drew room = tt
 bare_drawn (Ok first) old new by cookie root nodes starts at_leaf is (log, pre, next, all) room =
     let here : SpellsBare (log ++ drafted by first nodes ∷ []) first cookie = subst
     (λ (t : ℕ × List (Node Child)). SpellsBare (log ++ drafted by t.0 t.1 ∷ []) t.0 cookie)
     (λ i. (next i, sym is i)) (bare_spells log by cookie root (starts_from old log pre starts) at_leaf) in
-    (omega (arith, room), subst (λ w. SpellsBare w first cookie) (sym all) here)
+    let low : 1 < first = omega (arith, next, stamps_opened log (starts_from old log pre starts)) in
+    (low, omega (arith, room), subst (λ w. SpellsBare w first cookie) (sym all) here)

@@ -67,7 +67,7 @@ fn drafts(
     ensures book { mark.new.book ≡ mark.old.book }
     ensures seat { mark.new.seat ≡ mark.old.seat }
     ensures drawn { IfOk result (λ drew. IfOk drew
-        (λ first. (first < stamps) × SpellsBare mark.new.log first cookie.now)) }
+        (λ first. (1 < first) × (first < stamps) × SpellsBare mark.new.log first cookie.now)) }
 {
     let nodes = [snapshot_at_first(alloc, cookie)?];
     mark.legal();
@@ -84,6 +84,7 @@ fn publishes(
 ) -> Result<bool, Refusal>
     requires book { mark.old.book ≡ head.now }
     requires seat { IsSome mark.old.seat }
+    requires later { 1 < stamp_of new }
     requires drawn { SpellsBare mark.old.log (stamp_of new) cookie.now }
     ensures book { mark.new.book ≡ mark.old.book }
     ensures seat { mark.new.seat ≡ mark.old.seat }

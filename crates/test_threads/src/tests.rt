@@ -6,6 +6,7 @@ mod gates;
 mod lines;
 mod orders;
 mod phases;
+mod readings;
 mod schedules;
 mod seats;
 mod storms;

@@ -79,7 +79,7 @@ impl User {
 
     /// Pushes all that is pending in the group. It is pending still, until a pull confirms it.
     pub(crate) fn push(&mut self) -> Result<usize, Refusal> {
-        let body = self.client.push_body(TRIES)?;
+        let body = self.client.push_body(0, TRIES)?;
         self.server.take(body.as_slice());
         Ok(body.len())
     }

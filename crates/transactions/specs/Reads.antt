@@ -2,7 +2,7 @@
 use Rattle.std.specs.Prelude.{◌≡◌, ℕ, Option, Some, None}
 use Rattle.std.specs.FinMap as finite
 use Rattle.group_history.specs.Spelling.{Contents, Version, map_at, version_at}
-use Rattle.group_history.specs.State.{opening}
+use Rattle.group_history.specs.State.{opening, pulled_state}
 
 -- what is known to be placed, and the state and the map of the one commit that it reads
 pub record Read : Type 0 where
@@ -17,6 +17,13 @@ version_or (Some v) = v
 -- what the commit of a stamp spells
 abbrev pub read_version : Contents → ℕ → Version
 read_version contents head = version_or (version_at contents head)
+
+-- the version of the snapshot at which a commit's chain begins: what the server last sent, and nothing pending
+abbrev pub pulled_version : Version → Version
+pulled_version v = record {
+  state = pulled_state v.state.pulled v.state.cookie v.state.confirmed;
+  read = v.state.pulled;
+}
 
 -- The head's stamp spells a version, and the root's stamp its map.
 pub record IsRead (contents : Contents) (head root : ℕ) : Type 0 where

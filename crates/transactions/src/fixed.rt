@@ -53,6 +53,7 @@ impl<C: Chunks, K: NamesContents> Chunks for Fixed<C, K> {
 
     ghost stops = { C.stops };
 
+    #[inline(always)]
     fn show(&mut self, at: Ref) -> Result<C::Held, Stop> {
         self.chunks.show(at)
     }
@@ -65,6 +66,7 @@ impl<C: Chunks, K: NamesContents> Chunks for Fixed<C, K> {
 impl<N: Nodes, K: NamesContents> Nodes for Fixed<N, K> {
     type HeldCommit = N::HeldCommit;
 
+    #[inline(always)]
     fn show_commit(&mut self, at: Ref) -> Result<N::HeldCommit, Stop> {
         self.chunks.show_commit(at)
     }

@@ -14,8 +14,9 @@ ghost use Rattle.map_chunks.specs.Places.{Grows};
 ghost use Rattle.map_chunks.specs.Scanning.{scanned};
 ghost use Rattle.map_chunks.specs.Sinks.{HasMore, HasBegun};
 ghost use Rattle.group_history.specs.declared.mutators.Stop.TheVariants.{NoMemory};
+ghost use Rattle.transactions.specs.Reads.{pulled_version};
 
-use commit_graph::{Nodes, closed_of, cookie_of, read_root, walk};
+use commit_graph::{Nodes, closed_of, cookie_of, read_root, top_of, walk};
 use group_history::{Cookie, Json, Mutation, Ref, Scan, Stop, Text};
 use map_chunks::covers::{Cover, cover_placed};
 use map_tree::{TakesRows, Tree};
@@ -188,6 +189,32 @@ impl<N: Nodes> ReadTx<N> {
         ensures stopped { IfErr result N.stops }
     {
         closed_of(&mut self.nodes, self.head)
+    }
+
+    /// The same moment without what is pending: reads the snapshot at which the commit's chain begins, so every answer
+    /// is of what the server last sent (Replicache, How It Works, "The Client View"). Two looks. Takes no memory.
+    pub fn pulled(self) -> Result<ReadTx<N>, Stop>
+    where
+        N: Drop,
+        ensures version { IfOk result (λ tx. tx.version ≡ pulled_version self.version) }
+        ensures grown { IfOk result (λ tx. IsPrefix self.contents tx.contents) }
+        ensures stopped { IfErr result N.stops }
+    {
+        let ReadTx {
+            alloc,
+            nodes,
+            head,
+            root: _,
+        } = self;
+        let mut nodes = nodes;
+        let top = top_of(&mut nodes, head)?;
+        let root = read_root(&mut nodes, top.snapshot)?;
+        Ok(ReadTx {
+            alloc,
+            nodes,
+            head: top.snapshot,
+            root,
+        })
     }
 
     /// Ends the reading, and hands back the nodes.

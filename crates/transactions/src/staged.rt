@@ -75,6 +75,7 @@ impl<'a, C: Chunks, K: NamesContents> Chunks for Staged<'a, C, K> {
 
     ghost stops = { C.stops };
 
+    #[inline(always)]
     fn show(&mut self, at: Ref) -> Result<HeldStaged<'a, C::Held>, Stop> {
         let stamp = at.stamp();
         if stamp < self.draft.first() {

@@ -101,10 +101,19 @@ def queries() -> dict[str, tuple[float, float]]:
     for number in range(1000):
         place.mutate("put", {"id": f"{number:04}", "text": "t"})
         rep.mutate.put({"id": f"{number:04}", "text": "t"})
+    keys = [f"{number:04}" for number in range(100, 600, 100)]
+
+    def read(query: Callable[[Any], object]) -> object:
+        with place.reading() as reading:
+            return query(reading)
+
+    asked: dict[str, Callable[[Any], object]] = {
+        "query of one get": lambda tx: tx.get("0500"),
+        "query of five gets": lambda tx: [tx.get(key) for key in keys],
+        "query of a scan of 100": lambda tx: tx.scan("00"),
+    }
     try:
-        get = seconds(lambda n: place.get("0500"), lambda n: rep.query(lambda tx: tx.get("0500")))
-        scan = seconds(lambda n: place.scan("00"), lambda n: rep.query(lambda tx: tx.scan("00")))
-        return {"query of one get": get, "query of a scan of 100": scan}
+        return {name: seconds(lambda n: read(query), lambda n: rep.query(query)) for name, query in asked.items()}
     finally:
         rep.close()
 

@@ -3,17 +3,32 @@
 from __future__ import annotations
 
 import ctypes
+import dataclasses
 import gc
 import json
 import re
 import threading
+import time
 import unittest
 from collections.abc import Callable
 from pathlib import Path
 from unittest import mock
 
 from giqaymu import edge
-from giqaymu.edge import Draft, Ended, Group, Json, Place, Refusal, Refuse, Version, VersionKind, Why
+from giqaymu.edge import (
+    AskedRun,
+    Draft,
+    Ended,
+    Group,
+    Json,
+    Place,
+    Refusal,
+    Refuse,
+    Slots,
+    Version,
+    VersionKind,
+    Why,
+)
 
 ID = "00000000-0000-4000-8000-000000000001"
 ANNA = "00000000-0000-4000-8000-00000000000a"
@@ -86,11 +101,102 @@ class Calls(unittest.TestCase):
         self.assertEqual([(m["clientID"], m["id"], m["args"]) for m in body["mutations"]],
                          [(ANNA, 1, ["n", 1]), (BERT, 1, ["n", 2]), (ANNA, 2, ["t", "x"])])
         self.assertEqual([m["timestamp"] for m in body["mutations"]][:2], [5, 6])
+        for skip in (0, 1, 2, 3, 2**32 - 1):
+            rest = {**body, "mutations": body["mutations"][skip:]}
+            self.assertEqual(json.loads(anna.push(skip)), rest)
+        for skip in (-1, 2**32):
+            with self.assertRaises(ValueError):
+                anna.push(skip)
         self.assertIs(pull(bert, response(1, put("n", 30), anna=1, bert=1)), Ended.APPLIED)
         self.assertIs(pull(bert, response(1)), Ended.SAME)
         self.assertEqual(anna.pending(), [(ANNA, 2, "append")])
         self.assertEqual(anna.scan(), [("n", 30), ("t", "x")])
         self.assertEqual(anna.refresh(), 2)
+
+    def test_readings(self) -> None:
+        anna, bert = seated()
+        pull(anna, response(1, put("a", 1), put("b", 1)))
+        anna.mutate("set", ["a", 2])
+        rows, body, moment = bert.scan(), bert.push(), bert.moment()
+        with anna.reading() as reading:
+            bert.mutate("set", ["c", 1])
+            pull(bert, response(2, put("a", 3), anna=1))
+            self.assertEqual((reading.scan(), reading.moment()), (rows, moment))
+            self.assertEqual((reading.get("a"), reading.get("c", 7), reading.has("c")), (2, 7, False))
+            self.assertEqual((reading.pulled_scan(), reading.pulled_get("a")), ([("a", 1), ("b", 1)], 1))
+            self.assertEqual((reading.pending(), reading.cookie()), ([(ANNA, 1, "set")], 1))
+            self.assertEqual((reading.push(), reading.closed(), anna.get("a")), (body, False, 2))
+            self.assertEqual(json.loads(reading.push(1))["mutations"], [])
+            self.refused(Why.READS, anna.mutate, "set", ["a", 2])
+            self.refused(Why.READS, anna.slots)
+            with self.assertRaises(Refusal) as told, anna.reading():
+                pass
+            self.assertIs(told.exception.why, Why.READS)
+        self.refused(Why.NOT_READ, reading.get, "a")
+        self.assertEqual((anna.scan(), anna.cookie()), ([("a", 3), ("b", 1), ("c", 1)], 2))
+        self.assertGreater(anna.moment(), moment)
+        with anna.reading():
+            anna.leave()
+        self.refused(Why.NO_CLIENT, anna.get, "a")
+        with bert.reading():
+            bert.close()
+        self.refused(Why.NO_PLACE, bert.get, "a")
+
+    def test_a_reading_ends_where_it_raises(self) -> None:
+        anna, _ = seated()
+        with self.assertRaises(KeyError), anna.reading():
+            raise KeyError
+        self.assertEqual(anna.mutate("set", ["a", 1]), 1)
+
+    def test_an_interrupt_behind_the_begin_of_a_reading(self) -> None:
+        anna, _ = seated()
+        call = anna._call
+
+        def interrupted(what: edge._What) -> edge._Told:
+            told = call(what)
+            if what is edge._What.BEGIN_READ:
+                raise KeyboardInterrupt
+            return told
+
+        with mock.patch.object(anna, "_call", interrupted), self.assertRaises(KeyboardInterrupt), anna.reading():
+            pass
+        self.assertEqual(anna.mutate("set", ["a", 1]), 1)
+        thread = threading.Thread(target=anna.mutate, args=["set", ["a", 2]])
+        thread.start()
+        thread.join(5)
+        self.assertEqual(anna.get("a"), 2)
+
+    def test_moments(self) -> None:
+        anna, bert = seated()
+        first = anna.moment()
+        self.refused(Why.REFUSED, anna.mutate, "need", ["a"], code=77)
+        self.assertEqual((anna.moment(), bert.moment()), (first, first))
+        anna.mutate("set", ["a", 1])
+        second = bert.moment()
+        pull(anna, response(1, put("a", 1), anna=1))
+        third = bert.moment()
+        self.assertIs(pull(anna, response(1)), Ended.SAME)
+        self.assertEqual((bert.moment(), first < second < third), (third, True))
+
+    def test_pulled_rows(self) -> None:
+        anna, bert = seated()
+        pull(anna, response(1, put("a/1", 1), put("a/2", "é"), put("b", None)))
+        bert.mutate("set", ["a/2", 2])
+        bert.mutate("set", ["c", 3])
+        self.assertEqual((anna.get("a/2"), anna.pulled_get("a/2")), (2, "é"))
+        self.assertEqual((anna.pulled_get("b", 7), anna.pulled_get("c", 7)), (None, 7))
+        rows = [("a/1", 1), ("a/2", "é"), ("b", None)]
+        self.assertEqual((anna.pulled_scan(), anna.pulled_scan("a/")), (rows, rows[:2]))
+        self.assertEqual((anna.pulled_scan(at="a/2"), anna.pulled_scan(after="a/1", limit=1)), (rows[1:], rows[1:2]))
+
+    def test_slots(self) -> None:
+        anna, _ = seated(slots=64)
+        # A quarter is reserved, and the group's two nodes have slots.
+        self.assertEqual(anna.slots(), Slots(ordinary=46, all=62, retired=0))
+        anna.mutate("set", ["n", 1])
+        self.assertLess(anna.slots().ordinary, 46)
+        anna.leave()
+        self.refused(Why.NO_CLIENT, anna.slots)
 
     def test_watches(self) -> None:
         anna, bert = seated()
@@ -103,6 +209,14 @@ class Calls(unittest.TestCase):
         self.refused(Why.NO_WATCH, bert.poll, everything)
         self.refused(Why.NO_WATCH, anna.poll, of_bert)
         self.assertEqual(bert.poll(of_bert), [("a", 1)])
+        self.refused(Why.NO_WATCH, bert.unwatch, everything)
+        anna.unwatch(everything)
+        self.refused(Why.NO_WATCH, anna.unwatch, everything)
+        self.refused(Why.NO_WATCH, anna.poll, everything)
+        with anna.reading():
+            self.refused(Why.READS, anna.poll, others)
+            anna.unwatch(others)
+        self.assertEqual(anna.poll(anna.watch("a")), [("a", 1)])
 
     def test_refused_mutations(self) -> None:
         anna, bert = seated()
@@ -334,6 +448,18 @@ class OwnMutators(unittest.TestCase):
         self.refused(Why.ASKS, anna.mutate, "mean", 1)
         self.assertEqual(anna.refresh(), 1)
 
+    def test_a_run_is_told_in_one(self) -> None:
+        runs: list[AskedRun] = []
+        anna, bert = self.seated(log=lambda draft, args: runs.append(asking.asked_run()))
+        asking = anna
+        self.refused(Why.NOT_ASKED, anna.asked_run)
+        anna.mutate("note", 1)
+        anna.mutate("log", {"é": [1]}, 7)
+        asking = bert
+        pull(bert, response(1, anna=1))
+        new = AskedRun("log", {"é": [1]}, "initial", client_id=ANNA, mutation_id=2, timestamp=7)
+        self.assertEqual(runs, [new, dataclasses.replace(new, reason="rebase")])
+
     def test_others_are_first(self) -> None:
         runs = []
 
@@ -370,7 +496,6 @@ class OwnMutators(unittest.TestCase):
 
     def test_beside_rules(self) -> None:
         rules: dict[str, Json] = {"add": [["put", "r", ["add", ["or", ["get", "r"], 0], 1]]]}
-        rules.update({name: [["put", "looked", 1]] for name in ("", "_", "look")})
         own = {"note": note, "take": take}
         anna, bert = Group(ID, profile="p1", schema="s1", rules=rules, mutators=own, places=2).places
         anna.sit(ANNA)
@@ -380,9 +505,6 @@ class OwnMutators(unittest.TestCase):
         self.assertIs(pull(anna, response(1, put("r", 10))), Ended.APPLIED)
         self.assertEqual(bert.scan(), [("n", [7]), ("r", 12), ("rebased", True)])
         self.assertEqual(anna.mutate("take", "n"), 3)
-        with anna.look() as draft:
-            self.assertEqual((draft.get("r"), draft.has("n")), (12, False))
-        self.assertEqual((anna.has("looked"), anna.refresh()), (False, 3))
         self.refused(Why.BAD_RULES, Group, ID, profile="p1", schema="s1", rules={"a": 1}, mutators=own)
         with self.assertRaisesRegex(ValueError, "one name: take"):
             Group(ID, profile="p1", schema="s1", rules={"take": []}, mutators=own)
@@ -412,6 +534,43 @@ class Threads(unittest.TestCase):
         pull(places[0], response(1, put("n", 0)))
         self.increments(places, 500)
         self.assertEqual([place.refresh() for place in places], [500] * 4)
+
+    def test_readings_are_of_one_moment(self) -> None:
+        rules: Json = {"both": [["put", "a", ["arg", 0]], ["put", "b", ["arg", 0]]]}
+        anna, bert = Group(ID, profile="p1", schema="s1", rules=rules, slots=65536, places=2).places
+        anna.sit(ANNA)
+        bert.sit(BERT)
+        stop = threading.Event()
+
+        def work() -> None:
+            number = 0
+            while not stop.is_set():
+                number += 1
+                anna.mutate("both", [number])
+                time.sleep(0)
+
+        thread = threading.Thread(target=work)
+        thread.start()
+        moments = [0]
+        while len(set(moments)) < 20:
+            with bert.reading() as reading:
+                moment, value = reading.moment(), reading.get("a")
+                seen = moment, value, reading.get("b"), reading.moment()
+            moments.append(moment)
+            self.assertEqual(seen, (moment, value, value, moment))
+        stop.set()
+        thread.join()
+        self.assertEqual(moments, sorted(moments))
+
+    def test_a_reading_has_its_place(self) -> None:
+        anna, _ = seated()
+        with anna.reading() as reading:
+            thread = threading.Thread(target=anna.mutate, args=["set", ["a", 1]])
+            thread.start()
+            thread.join(0.05)
+            self.assertEqual((thread.is_alive(), reading.has("a")), (True, False))
+        thread.join()
+        self.assertTrue(anna.has("a"))
 
     def test_a_shared_place(self) -> None:
         anna, _ = seated(16384)
@@ -446,9 +605,9 @@ class Numbers(unittest.TestCase):
             with mock.patch.object(ctypes, "CDLL", return_value=library):
                 edge._library.__wrapped__()
 
-        for number in (10000, 10099, edge._UNPROVED | 10000):
+        for number in (10100, 10199, edge._UNPROVED | 10100):
             loaded(number)
-        for number in (9999, 10100, 20000, edge._UNPROVED | 10100):
+        for number in (10099, 10200, 20100, edge._UNPROVED | 10200):
             with self.assertRaises(Refusal) as told:
                 loaded(number)
             self.assertEqual(told.exception.why, Why.BAD_VERSION)

@@ -11,7 +11,22 @@ from typing import Any
 from unittest import mock
 
 import todo
-from giqaymu import Answered, Closed, Diff, Offline, Refusal, Reply, RequestOptions, UpdateNeeded, Why, replicache
+from giqaymu import (
+    Answered,
+    Closed,
+    Diff,
+    Offline,
+    Refusal,
+    Reply,
+    RequestOptions,
+    UpdateNeeded,
+    Why,
+    edge,
+    groups,
+    playing,
+    replicache,
+    subscriptions,
+)
 from support import QUICK, WithServer, rows
 
 
@@ -70,6 +85,10 @@ class Calls(WithServer):
         anna.mutate.once("x")
         told = anna.query(lambda tx: (tx.get("n/x"), tx.is_empty(), tx.client_id))
         self.assertEqual(told, (1, False, anna.client_id))
+        kept = anna.query(lambda tx: tx)
+        with self.assertRaises(Refusal) as refused:
+            kept.get("n/x")
+        self.assertIs(refused.exception.why, Why.NOT_READ)
 
     def test_clients(self) -> None:
         anna = self.rep(clients=2, pusher=offline)
@@ -116,6 +135,60 @@ class Calls(WithServer):
             self.assertEqual(wrong, 0)
             self.assertGreater(asked, 100)
             anna.close()
+
+    def test_pulled_rows(self) -> None:
+        anna = self.rep(pusher=offline, pull_interval=None)
+        self.server.space.do("add", {"id": "x", "text": "milk"})
+        anna.pull(now=True).result(5)
+        told: list[Any] = []
+        anna.subscribe(lambda tx: tx.pulled_get("todo/x"), told.append)
+        anna.mutate.rename(id="x", text="mine")
+        anna.mutate.add(id="y", text="tea")
+
+        def both(tx: Any) -> Any:
+            return [tx.get(key, {}).get("text") for key in ("todo/x", "todo/y")], dict(tx.pulled_scan("todo/"))
+
+        row = self.server.space.values()["todo/x"]
+        self.assertEqual(anna.query(both), (["mine", "tea"], {"todo/x": row}))
+        self.server.space.do("rename", {"id": "x", "text": "theirs"})
+        anna.pull(now=True).result(5)
+        self.holds(lambda: told == [row, {**row, "text": "theirs"}])
+        self.assertEqual(anna.query(both), (["mine", "tea"], {"todo/x": told[1]}))
+
+    def test_a_query_keeps_no_change_waiting(self) -> None:
+        asks, go_on = threading.Event(), threading.Event()
+
+        def slow(tx: Any) -> Any:
+            before = tx.get("counted")
+            asks.set()
+            go_on.wait(5)
+            return before, tx.get("counted"), tx.has("todo/x")
+
+        anna = self.rep(pusher=offline, pull_interval=None, slots=64)
+        bert = anna.client()
+        anna.pull(now=True).result(5)
+        anna.mutate.once(0)
+        told: list[Any] = []
+        thread = threading.Thread(target=lambda: told.append(anna.query(slow)))
+        thread.start()
+        self.assertTrue(asks.wait(5))
+        for number in range(100):  # the group grows meanwhile
+            (anna if number % 2 else bert).mutate.once(number)
+        self.server.space.do("add", {"id": "x", "text": "milk"})
+        anna.pull(now=True).result(5)
+        self.assertEqual((bert.query(lambda tx: tx.get("counted")), thread.is_alive()), (101, True))
+        go_on.set()
+        thread.join(5)
+        self.assertEqual((told, anna.query(lambda tx: tx.has("todo/x"))), ([(1, 1, False)], True))
+
+    def test_the_most_clients(self) -> None:
+        with self.assertRaises(ValueError):
+            self.rep(clients=groups.MOST_CLIENTS + 1, pusher=offline, puller=offline)
+        anna = self.rep(clients=groups.MOST_CLIENTS, pusher=offline, puller=offline)
+        clients = [anna, *(anna.client() for _ in range(groups.MOST_CLIENTS - 1))]
+        clients[-1].mutate.once("x")
+        for client in clients:
+            self.assertEqual(client.query(lambda tx: (tx.get("counted"), tx.client_id)), (1, client.client_id))
 
     def test_close_ends_what_waits(self) -> None:
         anna = self.rep(pusher=offline, puller=offline)
@@ -174,6 +247,41 @@ class Subscriptions(WithServer):
         anna.mutate.toggle(id="x")
         self.quiet(anna)
         self.assertEqual(len(told), 2)
+
+    def test_an_unchanged_moment_costs_one_call(self) -> None:
+        anna = self.rep(rules=todo.RULES, pusher=offline, puller=offline)
+        told: list[Any] = []
+        seen: list[Diff] = []
+        for _ in range(3):
+            anna.subscribe(lambda tx: [row.key for row in tx.scan()], told.append)
+        anna.experimental_watch(seen.extend)
+        self.holds(lambda: len(told) == 3 and not anna._shared.teller._new)
+        place = anna._kept._place(playing.TELL)
+        time.sleep(0.05)
+        with mock.patch.object(place, "_call", wraps=place._call) as call:
+            anna._shared.teller.changed(None)
+            self.holds(lambda: call.call_count)
+            time.sleep(0.05)
+            self.assertEqual([one.args for one in call.call_args_list], [(edge._What.MOMENT,)])
+        anna.mutate.add(id="x", text="t")
+        self.holds(lambda: len(told) == 6 and len(seen) > 0)
+        self.assertEqual({"todo/x" in one for one in told[3:]}, {True})
+
+    def test_a_change_that_is_told_late(self) -> None:
+        """A watch that has looked at some keys alone isn't at the moment at which it did."""
+        rows = {"a": 1, "b": 1}
+        seen: list[Diff] = []
+        watch = subscriptions.Watch(seen.extend, "", tells_first=False)
+
+        def ask(query: Any, reads: Any) -> Any:
+            tx = mock.Mock(**{"scan": lambda prefix: list(rows.items()), "get": rows.get, "has": rows.__contains__})
+            return query(tx)
+
+        watch.tell(ask, None, (1, 1))
+        rows.update(a=2, b=2)
+        watch.tell(ask, {"a"}, (1, 3))
+        watch.tell(ask, {"b"}, (1, 3))
+        self.assertEqual([(diff.key, diff.new_value) for diff in seen], [("a", 2), ("b", 2)])
 
     def test_what_a_rebase_takes_back_is_told(self) -> None:
         anna = self.rep(pusher=offline)
@@ -424,6 +532,8 @@ class Requests(WithServer):
                 anna.push(now=True).result(5)
         anna.push(now=True).result(5)
         self.assertEqual(sum(len(body["mutations"]) for body in self.server.pushed), 100)
+        self.assertIsNone(anna._kept.unpushed({anna.client_id: 100}))
+        self.assertEqual(anna._kept.unpushed({anna.client_id: 40}), (40, (anna.client_id, 41)))
 
     def test_an_answered_push_that_was_lost_is_sent_again(self) -> None:
         lost: list[bytes] = []

@@ -37,6 +37,14 @@ pub(crate) enum What {
     DraftDel = 22,
     Ran = 23,
     GiveUp = 24,
+    Slots = 25,
+    BeginRead = 26,
+    EndRead = 27,
+    Moment = 28,
+    PulledGet = 29,
+    PulledScan = 30,
+    Unwatch = 31,
+    AskedRun = 32,
 }
 
 /// What a call is given: two numbers and two byte strings, of which each call uses some.

@@ -48,6 +48,16 @@
 //! }
 //! ```
 //!
+//! Queries of one [`Reading`] are answered as of one moment, however others change the group meanwhile:
+//!
+//! ```
+//! fn sum(place: &mut giqaymu::Place) -> Result<(usize, usize), giqaymu::Refusal> {
+//!     let mut reading = place.begin_read()?;
+//!     let length = |value: Option<&[u8]>| value.map_or(0, <[u8]>::len);
+//!     Ok((length(reading.get("a")?), length(reading.get("b")?)))
+//! }
+//! ```
+//!
 //! Mutators may be the program's own, beside rules too. A change calls them, and each rebase again:
 //!
 //! ```
@@ -79,6 +89,7 @@ mod edge;
 mod group;
 mod own;
 mod place;
+mod reading;
 mod refusal;
 mod scan;
 mod version;
@@ -87,6 +98,7 @@ pub use edge::{STACK, version};
 pub use group::Group;
 pub use own::{Draft, Ran, Reason, Run};
 pub use place::{Ended, Place, Ticket, Watch};
+pub use reading::Reading;
 pub use refusal::{OpenError, Refusal, VersionKind};
 pub use scan::{Scan, Start};
 pub use version::Version;

@@ -57,6 +57,12 @@ pub struct Draft<'a> {
 }
 
 impl Draft<'_> {
+    /// All of the run in one: its mutation as a push lists it, a JSON object with `args`, `clientID`, `id`, `name` and
+    /// `timestamp`. Client, id and time are told for the program's own logs: what a run does may not depend on them.
+    pub fn asked_run(&mut self) -> Result<&[u8], Refusal> {
+        Ok(self.place.call(What::AskedRun, Given::default())?.bytes)
+    }
+
     /// The value at the key, a compact JSON text.
     pub fn get(&mut self, key: &str) -> Result<Option<&[u8]>, Refusal> {
         self.place.value(What::DraftGet, key)

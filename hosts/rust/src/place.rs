@@ -34,7 +34,7 @@ pub struct Ticket {
     number: u32,
 }
 
-/// A watch of rows, which its client polls until it leaves.
+/// A watch of rows, which its client polls until it gives it up, or leaves.
 #[derive(Debug, PartialEq, Eq)]
 pub struct Watch {
     client: u64,
@@ -98,7 +98,8 @@ impl Place {
         Ok(())
     }
 
-    /// The client leaves; its tickets and watches are given up, and what it made stays pending.
+    /// The client leaves; its tickets and watches are given up, and a reading that was forgotten; what it made stays
+    /// pending.
     pub fn leave(&mut self) -> Result<(), Refusal> {
         self.call(What::Leave, Given::default())?;
         Ok(())
@@ -146,6 +147,31 @@ impl Place {
         Ok(self.call(What::Closed, Given::default())?.returned == YES)
     }
 
+    /// The value at the key in what the server last sent, without what is pending.
+    pub fn pulled_get(&mut self, key: &str) -> Result<Option<&[u8]>, Refusal> {
+        self.value(What::PulledGet, key)
+    }
+
+    /// The rows of what the server last sent, without what is pending, as [`Place::scan`] has them.
+    pub fn pulled_scan(&mut self, scan: &Scan<'_>) -> Result<&[u8], Refusal> {
+        Ok(self.call(What::PulledScan, given_scan(scan))?.bytes)
+    }
+
+    /// The number of the group's moment. The same number, also at another place of the group, says the same map,
+    /// pending mutations and cookie; a later state has a greater number. It is one load, and takes no memory: a program
+    /// that asks before it reads pays little where nothing is new.
+    pub fn moment(&mut self) -> Result<u64, Refusal> {
+        Ok(self.call(What::Moment, Given::default())?.number)
+    }
+
+    /// How many slots are free, an array `[ordinary,all,retired]`: those that a change may take, those that a pull may
+    /// take which leaves nothing pending, and those that were let go and not given since, of which a change takes each
+    /// that no older reader holds. Each slot is looked at once, one after the other, so that others may take and let go
+    /// meanwhile; it takes time for each slot of the group.
+    pub fn slots(&mut self) -> Result<&[u8], Refusal> {
+        Ok(self.call(What::Slots, Given::default())?.bytes)
+    }
+
     /// Finds the client's last id in the group: the remedy for `Stale`.
     pub fn refresh(&mut self) -> Result<u64, Refusal> {
         Ok(self.call(What::Refresh, Given::default())?.number)
@@ -154,7 +180,14 @@ impl Place {
     /// The body of a push of all that is pending in the group (version 1), also where nothing is. The answer of the
     /// push endpoint is not read by the library.
     pub fn push(&mut self) -> Result<&[u8], Refusal> {
-        Ok(self.call(What::Push, Given::default())?.bytes)
+        self.push_from(0)
+    }
+
+    /// The body of a push as [`Place::push`] has it, but for the oldest `skip` pending mutations; where no more are
+    /// pending it has none. What is pending may be other by the time of the call than [`Place::pending`] told: look
+    /// which mutation the body begins with, or ask a [`Reading`](crate::Reading) for both.
+    pub fn push_from(&mut self, skip: u32) -> Result<&[u8], Refusal> {
+        Ok(self.call(What::Push, Given { m: skip, ..Given::default() })?.bytes)
     }
 
     /// Begins a pull: its ticket, and the body of its request (version 1). Many pulls may be under way.
@@ -233,13 +266,21 @@ impl Place {
         Ok(Watch { client, number: short(told.number) })
     }
 
+    fn watched(&self, watch: &Watch) -> Result<u32, Refusal> {
+        if watch.client == self.client { Ok(watch.number) } else { Err(Refusal::NoWatch) }
+    }
+
+    /// Gives a watch up, and the rows that it keeps. Refused with `NoWatch` where it is another client's.
+    pub fn unwatch(&mut self, watch: Watch) -> Result<(), Refusal> {
+        let m = self.watched(&watch)?;
+        self.call(What::Unwatch, Given { m, ..Given::default() })?;
+        Ok(())
+    }
+
     /// The rows of a watch, as [`Place::scan`] has them: the first time, and whenever they differ from those told last.
     /// Refused with `NoWatch` where the watch is another client's.
     pub fn poll(&mut self, watch: &Watch) -> Result<Option<&[u8]>, Refusal> {
-        if watch.client != self.client {
-            return Err(Refusal::NoWatch);
-        }
-        let m = watch.number;
+        let m = self.watched(watch)?;
         let told = self.call(What::Poll, Given { m, ..Given::default() })?;
         Ok((told.returned != NONE).then_some(told.bytes))
     }

@@ -94,6 +94,10 @@ pub enum Refusal {
     NoPlace,
     /// No change of the place asks for a run.
     NotAsked,
+    /// A reading of the place is open.
+    Reads,
+    /// No reading of the place is open.
+    NotRead,
     /// The library is of another version than what calls it.
     BadVersion,
     // tools/refusals: end
@@ -137,6 +141,8 @@ impl Refusal {
             -109 => Refusal::NoClient,
             -110 => Refusal::NoPlace,
             -111 => Refusal::NotAsked,
+            -112 => Refusal::Reads,
+            -113 => Refusal::NotRead,
             -201 => Refusal::BadVersion,
             // tools/refusals: end
             other => Refusal::Unknown(other),
@@ -199,6 +205,8 @@ impl Refusal {
             Refusal::NoClient => "no client sits at the place: sit down first",
             Refusal::NoPlace => "the place is closed: open a group",
             Refusal::NotAsked => "no change of the place asks for a run: mutate, or end a pull",
+            Refusal::Reads => "a reading of the place is open: end it first",
+            Refusal::NotRead => "no reading of the place is open: begin one",
             Refusal::BadVersion => {
                 "the library is of another version than what calls it: build both of one version"
             }

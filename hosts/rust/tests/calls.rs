@@ -81,12 +81,90 @@ fn changes() -> Result<(), Refusal> {
         r#"{{"clientGroupID":"{ID}","mutations":[{mutations}],"profileID":"p1","pushVersion":1,"schemaVersion":"s1"}}"#
     );
     assert_eq!(text(bert.push()?), body);
+    let rest = body.replace(&mutations, mutations.split_once("},").expect("two").1);
+    assert_eq!(text(bert.push_from(1)?), rest);
+    assert_eq!(text(bert.push_from(u32::MAX)?), body.replace(&mutations, ""));
     let confirmed = response("1", &format!(r#""{ANNA}":1,"{BERT}":1"#), &put("n", "30"));
     assert_eq!(pull(&mut bert, &confirmed)?, Ended::Applied);
     assert_eq!(pull(&mut bert, &response("1", "", ""))?, Ended::Same);
     assert_eq!(text(anna.pending()?), format!(r#"[["{ANNA}",2,"append"]]"#));
     assert_eq!(text(anna.scan(&Scan::default())?), r#"[["n",30],["t","x"]]"#);
     assert_eq!(anna.refresh()?, 2);
+    Ok(())
+}
+
+#[test]
+fn readings() -> Result<(), Refusal> {
+    let [mut anna, mut bert] = seated();
+    pull(&mut anna, &response("1", "", &[put("a", "1"), put("b", "1")].join(",")))?;
+    anna.mutate("set", r#"["a",2]"#, 5)?;
+    let rows = text(bert.scan(&Scan::default())?).to_owned();
+    let body = text(bert.push()?).to_owned();
+    let moment = bert.moment()?;
+    let mut reading = anna.begin_read()?;
+    bert.mutate("set", r#"["c",1]"#, 5)?;
+    pull(&mut bert, &response("2", &format!(r#""{ANNA}":1"#), &put("a", "3")))?;
+    assert_eq!(text(reading.scan(&Scan::default())?), rows);
+    assert_eq!(reading.moment()?, moment);
+    assert_eq!(reading.get("a")?.map(text), Some("2"));
+    assert_eq!((reading.has("c")?, reading.closed()?), (false, false));
+    assert_eq!(text(reading.pulled_scan(&Scan::of("a"))?), r#"[["a",1]]"#);
+    assert_eq!(reading.pulled_get("b")?.map(text), Some("1"));
+    assert_eq!(text(reading.pending()?), format!(r#"[["{ANNA}",1,"set"]]"#));
+    assert_eq!(text(reading.cookie()?), "1");
+    assert_eq!(text(reading.push()?), body);
+    assert!(text(reading.push_from(1)?).contains(r#""mutations":[]"#));
+    drop(reading);
+    assert_eq!(anna.get("a")?.map(text), Some("3"));
+    assert!(anna.has("c")? && anna.moment()? > moment);
+    std::mem::forget(anna.begin_read()?);
+    assert_eq!(anna.begin_read().err(), Some(Refusal::Reads));
+    assert_eq!(anna.mutate("set", r#"["a",2]"#, 5), Err(Refusal::Reads));
+    anna.leave()?;
+    assert_eq!(anna.begin_read().err(), Some(Refusal::NoClient));
+    Ok(())
+}
+
+#[test]
+fn moments() -> Result<(), Refusal> {
+    let [mut anna, mut bert] = seated();
+    let first = anna.moment()?;
+    assert_eq!(bert.moment()?, first);
+    assert_eq!(anna.mutate("need", r#"["a"]"#, 0), Err(Refusal::Refused(77)));
+    assert_eq!(anna.moment()?, first);
+    anna.mutate("set", r#"["a",1]"#, 0)?;
+    let second = bert.moment()?;
+    assert!(second > first);
+    pull(&mut anna, &response("1", &format!(r#""{ANNA}":1"#), &put("a", "1")))?;
+    let third = bert.moment()?;
+    assert!(third > second);
+    assert_eq!(pull(&mut anna, &response("1", "", ""))?, Ended::Same);
+    assert_eq!(bert.moment()?, third);
+    bert.leave()?;
+    assert_eq!(bert.moment(), Err(Refusal::NoClient));
+    Ok(())
+}
+
+#[test]
+fn pulled() -> Result<(), Refusal> {
+    let [mut anna, mut bert] = seated();
+    pull(&mut anna, &response("1", "", &[put("a/1", "1"), put("a/2", r#""é""#), put("b", "null")].join(",")))?;
+    bert.mutate("set", r#"["a/2",2]"#, 0)?;
+    bert.mutate("set", r#"["c",3]"#, 0)?;
+    assert_eq!(anna.get("a/2")?.map(text), Some("2"));
+    assert_eq!(anna.pulled_get("a/2")?.map(text), Some(r#""é""#));
+    assert_eq!(anna.pulled_get("c")?, None);
+    assert_eq!(text(anna.pulled_scan(&Scan::default())?), r#"[["a/1",1],["a/2","é"],["b",null]]"#);
+    let start = Start::After("a/1");
+    assert_eq!(text(anna.pulled_scan(&Scan { prefix: "", start, limit: Some(1) })?), r#"[["a/2","é"]]"#);
+    Ok(())
+}
+
+#[test]
+fn slots() -> Result<(), Refusal> {
+    let [mut anna, _] = seated();
+    // A quarter is reserved, and the group's two nodes have slots.
+    assert_eq!(text(anna.slots()?), "[766,1022,0]");
     Ok(())
 }
 
@@ -104,6 +182,12 @@ fn watches() -> Result<(), Refusal> {
     assert_eq!(bert.poll(&all), Err(Refusal::NoWatch));
     assert_eq!(anna.poll(&of_bert), Err(Refusal::NoWatch));
     assert_eq!(bert.poll(&of_bert)?.map(text), Some(r#"[["a",1]]"#));
+    assert_eq!(bert.unwatch(all), Err(Refusal::NoWatch));
+    anna.unwatch(others)?;
+    // The number may be given again: it is that of the new watch.
+    let again = anna.watch(&Scan::of("a"))?;
+    assert_eq!(anna.poll(&again)?.map(text), Some(r#"[["a",1]]"#));
+    bert.unwatch(of_bert)?;
     Ok(())
 }
 

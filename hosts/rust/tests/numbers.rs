@@ -17,7 +17,7 @@ fn numbers() -> impl Iterator<Item = (String, i32)> {
 #[test]
 fn names_are_those_of_the_header() {
     let refusals: Vec<(String, i32)> = numbers().filter(|(_, number)| *number < 0).collect();
-    assert_eq!(refusals.len(), 32);
+    assert_eq!(refusals.len(), 34);
     for (name, number) in refusals {
         let refusal = format!("{:?}", Refusal::of(number, 0));
         assert_eq!(refusal.split('(').next(), Some(name.as_str()), "{number}");

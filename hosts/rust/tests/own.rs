@@ -90,6 +90,29 @@ fn a_rebase_runs_what_stays_pending() -> Result<(), Refusal> {
 }
 
 #[test]
+fn a_run_is_told_in_one() -> Result<(), Refusal> {
+    let [mut anna, mut bert] = seated();
+    let told = |run: &Run, draft: &mut Draft<'_>| -> Result<String, Refusal> {
+        let told = text(draft.asked_run()?).to_owned();
+        mutators(run, draft)?;
+        Ok(told)
+    };
+    let mut runs = Vec::new();
+    anna.mutate_with("note", r#"{"é": [1]}"#, 7, |run, draft| {
+        runs.push(told(run, draft)?);
+        Ok(Ran::Done)
+    })?;
+    let (ticket, _) = bert.begin_pull()?;
+    bert.end_pull_with(ticket, br#"{"cookie":1,"lastMutationIDChanges":{},"patch":[]}"#, |run, draft| {
+        runs.push(told(run, draft)?);
+        Ok(Ran::Done)
+    })?;
+    let run = format!(r#"{{"args":{{"é":[1]}},"clientID":"{ANNA}","id":1,"name":"note","timestamp":7}}"#);
+    assert_eq!(runs, [run.clone(), run]);
+    Ok(())
+}
+
+#[test]
 fn others_are_first() -> Result<(), Refusal> {
     let [mut anna, mut bert] = seated();
     let mut runs = 0;

@@ -13,7 +13,7 @@ use Rattle.client_desk.specs.declared.sitting.Sitting.{Sitting}
 use Rattle.client_desk.specs.Answers.{HasLeft}
 use Rattle.client_desk.specs.Places.{PlaceState, free_place}
 use Rattle.client_desk.specs.Runs.{IsAsking}
-use Rattle.client_desk.specs.Sitting.{asking_of, client_of, seat_of}
+use Rattle.client_desk.specs.Sitting.{asking_of, client_of, reading_of, seat_of}
 use Rattle.client_desk.specs.Told.{Told, replied_told, tells, told_alone}
 
 -- the client is one of this group, on a seat of it
@@ -25,13 +25,23 @@ abbrev pub CanSit : (Bytes → Bool) → Meanings → Grouped → {M : Type 0} �
 CanSit has means group sitting = IfSome (seat_of sitting) (IsSeatOf group.group)
     × IfSome (client_of sitting) (IsAt group)
     × IfSome (asking_of sitting) (IsAsking has means group)
+    × IfSome (reading_of sitting) (IsAt group)
 
 abbrev pub with_sitting : {M : Type 0} → Sitting M → PlaceState → PlaceState
-with_sitting sitting p = record p { seat = seat_of sitting; client = client_of sitting; asking = asking_of sitting }
+with_sitting sitting p = record p {
+  seat = seat_of sitting;
+  client = client_of sitting;
+  asking = asking_of sitting;
+  reading = reading_of sitting;
+}
+
+-- no change of the place asks for a run, and no reading of it is open
+abbrev pub IsCalm : PlaceState → Type 0
+IsCalm p = (p.asking ≡ None) × (p.reading ≡ None)
 
 -- nobody sits there, and there is no seat: who sat there was taken, and nobody was put there yet
 abbrev pub IsTakenFrom : PlaceState → Type 0
-IsTakenFrom p = (p.seat ≡ None) × (p.client ≡ None) × (p.asking ≡ None)
+IsTakenFrom p = (p.seat ≡ None) × (p.client ≡ None) × (p.asking ≡ None) × (p.reading ≡ None)
 
 -- who sat there was taken
 pub record IsTaken (has : Bytes → Bool) (means : Meanings) {M : Type 0} (sitting : Sitting M) (old new : PlaceState)
@@ -39,8 +49,9 @@ pub record IsTaken (has : Bytes → Bool) (means : Meanings) {M : Type 0} (sitti
   pub seat : seat_of sitting ≡ old.seat
   pub client : client_of sitting ≡ old.client
   pub asking : asking_of sitting ≡ old.asking
+  pub reading : reading_of sitting ≡ old.reading
   pub fits : CanSit has means new.group sitting
-  pub left : new ≡ record old { seat = None; client = None; asking = None }
+  pub left : new ≡ record old { seat = None; client = None; asking = None; reading = None }
 
 -- the client left, and its tickets and watches are given up
 abbrev pub IsLeft : ClientState → PlaceState → PlaceState → Type 0
@@ -53,6 +64,6 @@ IsStepAt has means group step = Tells step (IsAsking has means group) (λ c repl
 -- it is told, and the place, from which the client was taken, has it
 abbrev pub Stands : {M S T : Type 0} → Asked M S T → PlaceState → Told → PlaceState → Type 0
 Stands step old t new = Tells step
-    (λ a. (t ≡ told_alone AsksRun) × (new ≡ record old { seat = None; client = None; asking = Some a }))
+    (λ a. (t ≡ told_alone AsksRun) × (new ≡ record old { seat = None; client = None; asking = Some a; reading = None }))
     (λ c reply. (t ≡ tells replied_told (map_ok reply_seen reply))
-    × (new ≡ record old { seat = None; client = Some c; asking = None }))
+    × (new ≡ record old { seat = None; client = Some c; asking = None; reading = None }))

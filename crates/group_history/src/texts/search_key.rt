@@ -1,7 +1,7 @@
 //! A text that is sought among others.
 ghost use Rattle.std.specs.Prelude.{◌≡◌};
 ghost use Rattle.std.specs.Cmp.Lexicographic.{slice_cmp};
-ghost use Rattle.std.specs.Ordering.{nat_cmp};
+ghost use Rattle.std.specs.Ordering.{is_gt, nat_cmp};
 ghost use Rattle.group_history.specs.Inside.Fronts.{front_of, AreBytes};
 
 use super::packed::front_of_bytes;
@@ -47,5 +47,27 @@ impl<'a> SearchKey<'a> {
             }
         }
         text.as_str().cmp(self.text)
+    }
+
+    /// Whether the given text is above this one, by bytes.
+    #[inline(always)]
+    pub fn is_below(&self, text: &Text) -> bool
+        ensures { result ≡ is_gt (slice_cmp nat_cmp text.now self.now) }
+    {
+        if let Kept::Short(short) = &text.kept {
+            let front = short.front();
+            if front != self.front {
+                return front > self.front;
+            }
+        }
+        self.is_below_all(text)
+    }
+
+    // The same, by all bytes.
+    #[inline(never)]
+    fn is_below_all(&self, text: &Text) -> bool
+        ensures { result ≡ is_gt (slice_cmp nat_cmp text.now self.now) }
+    {
+        text.as_str().cmp(self.text).is_gt()
     }
 }

@@ -83,6 +83,7 @@ impl OwnNode {
 }
 
 /// The rows of a leaf with one more, before the one at a place, and the upper half where they are 17 then.
+#[inline(never)]
 pub(crate) fn grown_rows(
     leaf: &Leaf,
     place: usize,
@@ -152,6 +153,7 @@ fn ready_over(
 
 /// An inner chunk with an own child in the place of one, and the child's upper half behind it. It is split where it has
 /// 17 children then.
+#[inline(never)]
 pub(crate) fn grown_over(
     inner: &Inner<Ref>,
     place: usize,

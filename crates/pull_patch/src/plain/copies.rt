@@ -9,7 +9,8 @@ ghost use Rattle.pull_patch.specs.Inside.Copies.{IsPlainNumber, CopiesValue, Cop
 ghost use Rattle.pull_patch.specs.Inside.Copies.{CopiesText};
 
 use super::stops::Stop;
-use super::words::{is_before, is_word};
+use super::words::is_before;
+use group_history::is_word;
 use json::{Reader, Token, Writer};
 use std::alloc::Global;
 use std::mem::replace;

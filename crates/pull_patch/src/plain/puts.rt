@@ -6,8 +6,7 @@ ghost use Rattle.pull_patch.specs.Inside.Plain.{ReadsOperations, ReadsPatch, IsT
 
 use super::stops::Stop;
 use super::values::{pass_value, read_json, read_text};
-use super::words::is_word;
-use group_history::{Json, Patch, Text};
+use group_history::{Json, Patch, Text, is_word};
 use json::{Reader, Token};
 use std::alloc::Global;
 

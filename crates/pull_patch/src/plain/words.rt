@@ -1,26 +1,9 @@
 //! Short texts, compared in place: a call for each comparison would take longer than the comparison.
-ghost use Rattle.std.specs.Prelude.{◌≡◌, bytes_eq};
+ghost use Rattle.std.specs.Prelude.{◌≡◌};
 ghost use Rattle.std.specs.Ordering.{is_lt, nat_cmp};
 ghost use Rattle.std.specs.Cmp.Lexicographic.{slice_cmp};
 
 use std::cmp::Ordering;
-
-/// Whether a text is this word.
-#[inline]
-pub(crate) fn is_word<const N: usize>(text: &str, word: &[u8; N]) -> bool
-    ensures { result ≡ bytes_eq text.now word.now }
-{
-    let bytes = text.as_bytes();
-    if bytes.len() != N {
-        return false;
-    }
-    'bytes: for i in 0..N {
-        if bytes[i] != word[i] {
-            return false;
-        }
-    }
-    true
-}
 
 /// Whether one text is below another.
 pub(crate) fn is_before(last: &str, name: &str) -> bool

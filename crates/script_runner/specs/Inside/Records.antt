@@ -7,16 +7,18 @@ use Rattle.head_word.specs.Marks.{own}
 use Rattle.commit_graph.specs.Seats.{IsSameSeat}
 use Rattle.rebase.specs.Clients.{ClientState}
 use Rattle.client_desk.specs.Places.{PlaceState}
+use Rattle.client_desk.specs.Inside.Sitting.{IsCalm}
 use Rattle.script_runner.specs.Commanding.{Player}
 use Rattle.script_runner.specs.declared.phase.Turn.{Turn}
 
--- At a place of a group that was opened for so many a client sits, by its seat's number, and no run is asked for.
+-- At a place of a group that was opened for so many a client sits, by its seat's number; no run is asked for, and no
+-- reading is open.
 pub record IsSeated (count commit number : ℕ) (p : PlaceState) : Type 0 where
   pub client : ClientState
   pub sits : p.client ≡ Some client
   pub seat : client.seat.mark.seat ≡ Some number
   pub opened : IsPrefix (opening count (opening_ref commit)) client.seat.mark.log
-  pub calm : p.asking ≡ None
+  pub calm : IsCalm p
 
 -- so do clients at all places
 abbrev pub AreSeated : ℕ → ℕ → List Player → Type 0

@@ -206,7 +206,7 @@ impl Server {
         alloc: Global,
         client: &mut Client<ScriptMutators, S>,
     ) -> Answer {
-        let push = client.push_body(TRIES)?;
+        let push = client.push_body(0, TRIES)?;
         self.counts_all(alloc, &push)?;
         self.serves(alloc, client)
     }

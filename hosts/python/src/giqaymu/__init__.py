@@ -12,6 +12,7 @@ programs that carry the bodies themselves.
 from .callbacks import UpdateNeeded
 from .edge import (
     STACK,
+    AskedRun,
     Draft,
     Ended,
     Group,
@@ -19,9 +20,11 @@ from .edge import (
     Mutator,
     Pending,
     Place,
+    Reading,
     Refusal,
     Refuse,
     Row,
+    Slots,
     Ticket,
     Version,
     VersionKind,
@@ -37,11 +40,12 @@ from .replicache import Replicache
 from .store import SetAside
 from .subscriptions import Diff
 from .syncing import Poster
-from .transactions import ReadTransaction, WriteTransaction
+from .transactions import QueryTransaction, ReadTransaction, WriteTransaction
 from .transport import Answered, Offline, Reply, Transport
 
 __all__ = [
     "Answered",
+    "AskedRun",
     "Closed",
     "Diff",
     "Draft",
@@ -55,13 +59,16 @@ __all__ = [
     "PendingMutation",
     "Place",
     "Poster",
+    "QueryTransaction",
     "ReadTransaction",
+    "Reading",
     "Refusal",
     "Refuse",
     "Replicache",
     "Reply",
     "RequestOptions",
     "Row",
+    "Slots",
     "STACK",
     "SetAside",
     "Ticket",

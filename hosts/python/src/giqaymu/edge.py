@@ -29,13 +29,14 @@ import threading
 import time
 import uuid
 import weakref
-from collections.abc import Callable, Iterator, Mapping
+from collections.abc import Callable, Mapping
 from dataclasses import dataclass
 from pathlib import Path
 from types import TracebackType
-from typing import Any, NamedTuple
+from typing import Any, Literal, NamedTuple
 
 __all__ = [
+    "AskedRun",
     "Draft",
     "Ended",
     "Group",
@@ -43,10 +44,12 @@ __all__ = [
     "Mutator",
     "Pending",
     "Place",
+    "Reading",
     "Refusal",
     "Refuse",
     "Row",
     "STACK",
+    "Slots",
     "Ticket",
     "Version",
     "VersionKind",
@@ -97,6 +100,8 @@ class Why(enum.IntEnum):
     NO_CLIENT = -109
     NO_PLACE = -110
     NOT_ASKED = -111
+    READS = -112
+    NOT_READ = -113
     BAD_VERSION = -201
     # tools/refusals: end
 
@@ -169,6 +174,8 @@ _MESSAGES = {
     Why.NO_CLIENT: "no client sits at the place: sit down first",
     Why.NO_PLACE: "the place is closed: open a group",
     Why.NOT_ASKED: "no change of the place asks for a run: mutate, or end a pull",
+    Why.READS: "a reading of the place is open: end it first",
+    Why.NOT_READ: "no reading of the place is open: begin one",
     Why.BAD_VERSION: "the library is of another version than what calls it: build both of one version",
     # tools/refusals: end
 }
@@ -206,6 +213,17 @@ class Pending(NamedTuple):
     name: str
 
 
+class Slots(NamedTuple):
+    """How many slots of a group are free."""
+
+    ordinary: int
+    """A change may take these."""
+    all: int
+    """An end of a pull that leaves nothing pending may take these: the ordinary ones, and those reserved for it."""
+    retired: int
+    """These were let go and not given since: a change takes each that no older reader holds."""
+
+
 @dataclass(frozen=True)
 class Ticket:
     """A pull that a client began, and the body of its request."""
@@ -217,10 +235,25 @@ class Ticket:
 
 @dataclass(frozen=True)
 class Watch:
-    """A watch of rows, which its client polls until it leaves."""
+    """A watch of rows, which its client polls until it gives it up, or leaves."""
 
     _number: int
     _client: object
+
+
+@dataclass(frozen=True)
+class AskedRun:
+    """A run of a mutator of the program's own that a change asks for.
+
+    What it does has to depend on name, arguments, reason and the run's map alone; the rest is told for logs.
+    """
+
+    name: str
+    args: Json
+    reason: Literal["initial", "rebase"]
+    client_id: str
+    mutation_id: int
+    timestamp: int
 
 
 class _What(enum.IntEnum):
@@ -251,6 +284,14 @@ class _What(enum.IntEnum):
     DRAFT_DEL = 22
     RAN = 23
     GIVE_UP = 24
+    SLOTS = 25
+    BEGIN_READ = 26
+    END_READ = 27
+    MOMENT = 28
+    PULLED_GET = 29
+    PULLED_SCAN = 30
+    UNWATCH = 31
+    ASKED_RUN = 32
 
 
 class Version(NamedTuple):
@@ -263,7 +304,7 @@ class Version(NamedTuple):
     """Whether the library was built from its proof. It says so itself."""
 
 
-_CALLED, _UNPROVED = 10000, 0x80000000
+_CALLED, _UNPROVED = 10100, 0x80000000
 _NONE, _YES, _ASKED = 1, 2, 3
 _RAN, _RAN_REFUSED, _RAN_UNKNOWN = 0, 1, 2
 _ANY, _AT, _AFTER = 0, 1, 2
@@ -343,12 +384,6 @@ def _rules_fault(rules: bytes) -> str:
     return text.raw.decode() if told == length else ""
 
 
-def _done(returned: int, code: int = 0) -> None:
-    """Raises a refusal where a call was refused."""
-    if returned < 0:
-        raise Refusal(Why(returned), code)
-
-
 def json_bytes(value: Json) -> bytes:
     """A value as compact JSON. ValueError where a number is none that JSON has."""
     return json.dumps(value, ensure_ascii=False, allow_nan=False, separators=(",", ":")).encode()
@@ -368,19 +403,98 @@ def _within(name: str, number: int, most: int) -> int:
     return number
 
 
-class Place:
+class _Calls:
+    """What makes calls."""
+
+    def _call(self, what: _What, m: int = 0, n: int = 0, a: bytes = b"", b: bytes = b"") -> _Told:
+        raise NotImplementedError
+
+    def _value(self, what: _What, key: str, default: Json) -> Json:
+        told = self._call(what, a=key.encode())
+        return default if told.returned == _NONE else json.loads(told.bytes)
+
+    def _is(self, what: _What, key: str = "") -> bool:
+        return self._call(what, a=key.encode()).returned == _YES
+
+    def _scan(self, what: _What, prefix: str, at: str | None, after: str | None, limit: int | None) -> _Told:
+        if at is not None and after is not None:
+            raise ValueError("a scan begins at a key or after one")
+        kind, start = (_AT, at) if at is not None else (_AFTER, after) if after is not None else (_ANY, "")
+        most = _MAX if limit is None else _within("limit", limit, _MAX - 1)
+        return self._call(what, kind, most, prefix.encode(), start.encode())
+
+
+class _Queries(_Calls):
+    """The calls that ask what the group is."""
+
+    def get(self, key: str, default: Json = None) -> Json:
+        """The value at the key, or the default where there is none."""
+        return self._value(_What.GET, key, default)
+
+    def has(self, key: str) -> bool:
+        """Whether the key is there."""
+        return self._is(_What.HAS, key)
+
+    def scan(
+        self, prefix: str = "", *, at: str | None = None, after: str | None = None, limit: int | None = None
+    ) -> list[Row]:
+        """The rows whose keys begin with the prefix, in the order of their keys' bytes.
+
+        They begin at the key `at`, or after the key `after`; there are `limit` at the most.
+        """
+        return _rows(self._scan(_What.SCAN, prefix, at, after, limit).bytes)
+
+    def pulled_get(self, key: str, default: Json = None) -> Json:
+        """`get` of what the server last sent, without what is pending."""
+        return self._value(_What.PULLED_GET, key, default)
+
+    def pulled_scan(
+        self, prefix: str = "", *, at: str | None = None, after: str | None = None, limit: int | None = None
+    ) -> list[Row]:
+        """`scan` of what the server last sent, without what is pending."""
+        return _rows(self._scan(_What.PULLED_SCAN, prefix, at, after, limit).bytes)
+
+    def pending(self) -> list[Pending]:
+        """The pending mutations of the group, whichever client made them, the oldest first."""
+        return [Pending(*one) for one in json.loads(self._call(_What.PENDING).bytes)]
+
+    def cookie(self) -> Json:
+        """The group's cookie; None before the first pull was applied."""
+        return json.loads(self._call(_What.COOKIE).bytes)
+
+    def closed(self) -> bool:
+        """Whether the group is closed, since the server does not know it."""
+        return self._is(_What.CLOSED)
+
+    def push(self, skip: int = 0) -> bytes:
+        """The body of a push of what is pending in the group (version 1), but for the oldest `skip` mutations.
+
+        There is one also where no more are pending. What is pending may be other by the time of the call than `pending`
+        told, unless both are asked in one reading. The answer of the push endpoint is not read by the library.
+        """
+        return self._call(_What.PUSH, _within("skip", skip, 2**32 - 1)).bytes
+
+    def moment(self) -> int:
+        """The number of the group's moment.
+
+        The same number, also at another place of the group, says the same map, pending mutations and cookie; a later
+        state has a greater number. It is one load: who asks before reading pays little where nothing is new.
+        """
+        return self._call(_What.MOMENT).number
+
+
+class Place(_Queries):
     """A place at a group, at which a client sits down, makes its calls and leaves.
 
     Each call may raise a `Refusal`. A place that two threads use at once lets one of them wait for the other. After
     `close` each call is refused with `Why.NO_PLACE`.
     """
 
-    def __init__(self, handle: _Handle, mutators: Mapping[str, Mutator], unruled: str | None) -> None:
-        """For `Group` alone, which opened the handle. `unruled` is a name that has no rule, where the program is asked
-        for runs of such."""
+    def __init__(self, handle: _Handle, mutators: Mapping[str, Mutator]) -> None:
+        """For `Group` alone, which opened the handle."""
         self._handle = handle
+        self._giq_call = _library().giq_call
         self._mutators = mutators
-        self._unruled = unruled
         self._answer = _Answer()
         # A mutator of the program's own runs while its change has the place.
         self._lock = threading.RLock()
@@ -391,10 +505,12 @@ class Place:
 
     def _call(self, what: _What, m: int = 0, n: int = 0, a: bytes = b"", b: bytes = b"") -> _Told:
         with self._lock:
-            returned = _library().giq_call(self._handle, what, m, n, a, len(a), b, len(b), self._answer)
-            _done(returned, self._answer.code)
-            told = ctypes.string_at(self._answer.at, self._answer.len) if self._answer.len else b""
-            return _Told(returned, told, self._answer.number)
+            answer = self._answer
+            returned = self._giq_call(self._handle, what, m, n, a, len(a), b, len(b), answer)
+            if returned < 0:
+                raise Refusal(Why(returned), answer.code)
+            told = ctypes.string_at(answer.at, answer.len) if answer.len else b""
+            return _Told(returned, told, answer.number)
 
     def close(self) -> None:
         """Closes the place, with the client that sits there; what the client made stays pending in the group."""
@@ -417,59 +533,52 @@ class Place:
         """The client leaves; its tickets and watches are given up, and what it made stays pending."""
         self._call(_What.LEAVE)
 
-    def _value(self, what: _What, key: str, default: Json) -> Json:
-        told = self._call(what, a=key.encode())
-        return default if told.returned == _NONE else json.loads(told.bytes)
+    def reading(self) -> Reading:
+        """A reading: in `with place.reading() as reading` its queries are answered as of one moment.
 
-    def get(self, key: str, default: Json = None) -> Json:
-        """The value at the key, or the default where there is none."""
-        return self._value(_What.GET, key, default)
-
-    def has(self, key: str) -> bool:
-        """Whether the key is there."""
-        return self._call(_What.HAS, a=key.encode()).returned == _YES
-
-    def _scan(self, what: _What, prefix: str, at: str | None, after: str | None, limit: int | None) -> _Told:
-        if at is not None and after is not None:
-            raise ValueError("a scan begins at a key or after one")
-        kind, start = (_AT, at) if at is not None else (_AFTER, after) if after is not None else (_ANY, "")
-        most = _MAX if limit is None else _within("limit", limit, _MAX - 1)
-        return self._call(what, kind, most, prefix.encode(), start.encode())
-
-    def scan(
-        self, prefix: str = "", *, at: str | None = None, after: str | None = None, limit: int | None = None
-    ) -> list[Row]:
-        """The rows whose keys begin with the prefix, in the order of their keys' bytes.
-
-        They begin at the key `at`, or after the key `after`; there are `limit` at the most.
+        It has the place so long: other threads that use it wait, and calls of this thread that are no queries are
+        refused with `Why.READS`. The slots that other clients let go are kept from use meanwhile: be short.
         """
-        return _rows(self._scan(_What.SCAN, prefix, at, after, limit).bytes)
+        return Reading(self)
 
-    def pending(self) -> list[Pending]:
-        """The pending mutations of the group, whichever client made them, the oldest first."""
-        return [Pending(*one) for one in json.loads(self._call(_What.PENDING).bytes)]
+    def slots(self) -> Slots:
+        """How many slots of the group are free.
 
-    def cookie(self) -> Json:
-        """The group's cookie; None before the first pull was applied."""
-        return json.loads(self._call(_What.COOKIE).bytes)
-
-    def closed(self) -> bool:
-        """Whether the group is closed, since the server does not know it."""
-        return self._call(_What.CLOSED).returned == _YES
+        Each slot is looked at once, one after the other, so that others may take and let go meanwhile; it takes time
+        for each slot of the group.
+        """
+        return Slots(*json.loads(self._call(_What.SLOTS).bytes))
 
     def refresh(self) -> int:
         """Finds the client's last id in the group: the remedy for `Why.STALE`."""
         return self._call(_What.REFRESH).number
 
+    def _asked(self) -> tuple[Json, bool]:
+        """The mutation whose run is asked for, as a push lists it, and whether it is run for a rebase."""
+        told = self._call(_What.ASKED_RUN)
+        return json.loads(told.bytes), told.number == 1
+
+    def asked_run(self) -> AskedRun:
+        """The run that a change of this place asks for. Refused with `Why.NOT_ASKED` but in a mutator."""
+        mutation, rebase = self._asked()
+        return AskedRun(
+            name=mutation["name"],
+            args=mutation["args"],
+            reason="rebase" if rebase else "initial",
+            client_id=mutation["clientID"],
+            mutation_id=mutation["id"],
+            timestamp=mutation["timestamp"],
+        )
+
     def _run(self) -> tuple[int, int]:
         """Runs the mutator that is asked for: how that ended, and the code where it refused."""
-        named = self._call(_What.ASKED_NAME)
-        mutator = self._mutators.get(named.bytes.decode())
+        mutation, rebase = self._asked()
+        mutator = self._mutators.get(mutation["name"])
         if mutator is None:
             return _RAN_UNKNOWN, 0
-        draft = Draft(self, rebase=named.number == 1)
+        draft = Draft(self, rebase=rebase)
         try:
-            mutator(draft, json.loads(self._call(_What.ASKED_ARGS).bytes))
+            mutator(draft, mutation["args"])
         except Refuse as refused:
             return _RAN_REFUSED, refused.code
         finally:
@@ -501,33 +610,6 @@ class Place:
         """`mutate`, with arguments that are JSON already. TypeError where they are no bytes."""
         now = time.time_ns() // 1_000_000 if timestamp is None else _within("timestamp", timestamp, _MAX)
         return self._change(_What.MUTATE, n=now, a=name.encode(), b=_bytes("args", args)).number
-
-    @contextlib.contextmanager
-    def look(self) -> Iterator[Draft]:
-        """The map as of one moment: that of a change which is given up at the end.
-
-        For groups with mutators of the program's own: in others it is refused with `Why.NO_MUTATOR`. Where no slot is
-        free for the change it is refused with `Why.FULL`, and where the group is closed with `Why.CLOSED`.
-        """
-        if self._unruled is None:
-            raise Refusal(Why.NO_MUTATOR)
-        with self._lock:
-            # Else each look of a client that made no mutation for long walks over all that is pending.
-            self.refresh()
-            self._call(_What.MUTATE, a=self._unruled.encode(), b=b"null")
-            draft = Draft(self, rebase=False)
-            try:
-                yield draft
-            finally:
-                draft._place = None
-                self._call(_What.GIVE_UP)
-
-    def push(self) -> bytes:
-        """The body of a push of all that is pending in the group (version 1), also where nothing is.
-
-        The answer of the push endpoint is not read by the library.
-        """
-        return self._call(_What.PUSH).bytes
 
     def begin_pull(self) -> Ticket:
         """Begins a pull: the ticket has the body of its request (version 1). Many pulls may be under way."""
@@ -562,18 +644,69 @@ class Place:
         """Watches the rows that `scan` has for the same arguments. Nothing is read."""
         return Watch(self._scan(_What.WATCH, prefix, at, after, limit).number, self._client)
 
+    def _number_watched(self, watch: Watch) -> int:
+        if watch._client is not self._client:
+            raise Refusal(Why.NO_WATCH)
+        return watch._number
+
     def poll(self, watch: Watch) -> list[Row] | None:
         """The rows of a watch the first time, and whenever they differ from those told last; else None.
 
-        Refused with `Why.NO_WATCH` where the watch is another client's.
+        Refused with `Why.NO_WATCH` where the watch is another client's, or was given up.
         """
-        if watch._client is not self._client:
-            raise Refusal(Why.NO_WATCH)
-        told = self._call(_What.POLL, watch._number)
+        told = self._call(_What.POLL, self._number_watched(watch))
         return None if told.returned == _NONE else _rows(told.bytes)
 
+    def unwatch(self, watch: Watch) -> None:
+        """Gives a watch up, and the rows that it keeps. Its number may be given again, so don't use it any more.
 
-class Draft:
+        Refused with `Why.NO_WATCH` where it is another client's.
+        """
+        self._call(_What.UNWATCH, self._number_watched(watch))
+
+
+class Reading(_Queries):
+    """Queries as of one moment, that at which `with` begins. Behind it they are refused with `Why.NOT_READ`."""
+
+    def __init__(self, place: Place) -> None:
+        """For `Place` alone."""
+        self._place = place
+        self._is_open = False
+
+    def __enter__(self) -> Reading:
+        self._place._lock.acquire()
+        try:
+            self._place._call(_What.BEGIN_READ)
+            self._is_open = True
+        except Refusal:
+            self._place._lock.release()
+            raise
+        except BaseException:  # an interrupt, behind which it may be open
+            self._end()
+            raise
+        return self
+
+    def _end(self) -> None:
+        self._is_open = False
+        try:
+            self._place._call(_What.END_READ)
+        except Refusal:
+            pass  # the client has left, or the place was closed
+        finally:
+            self._place._lock.release()
+
+    def __exit__(
+        self, kind: type[BaseException] | None, error: BaseException | None, trace: TracebackType | None
+    ) -> None:
+        self._end()
+
+    def _call(self, what: _What, m: int = 0, n: int = 0, a: bytes = b"", b: bytes = b"") -> _Told:
+        if not self._is_open:
+            raise Refusal(Why.NOT_READ)
+        return self._place._call(what, m, n, a, b)
+
+
+class Draft(_Calls):
     """The map that a run of a mutator of the program's own reads and writes, until the run ends.
 
     `rebase` says for which reason it is run: a pull was applied under the mutation, or the client makes it.
@@ -584,32 +717,32 @@ class Draft:
         self._place: Place | None = place
         self.rebase = rebase
 
-    def _at(self) -> Place:
+    def _call(self, what: _What, m: int = 0, n: int = 0, a: bytes = b"", b: bytes = b"") -> _Told:
         if self._place is None:
             raise Refusal(Why.NOT_ASKED)
-        return self._place
+        return self._place._call(what, m, n, a, b)
 
     def get(self, key: str, default: Json = None) -> Json:
         """The value at the key, or the default where there is none."""
-        return self._at()._value(_What.DRAFT_GET, key, default)
+        return self._value(_What.DRAFT_GET, key, default)
 
     def has(self, key: str) -> bool:
         """Whether the key is there."""
-        return self._at()._call(_What.DRAFT_HAS, a=key.encode()).returned == _YES
+        return self._is(_What.DRAFT_HAS, key)
 
     def scan(
         self, prefix: str = "", *, at: str | None = None, after: str | None = None, limit: int | None = None
     ) -> list[Row]:
         """The rows, as `Place.scan` has them."""
-        return _rows(self._at()._scan(_What.DRAFT_SCAN, prefix, at, after, limit).bytes)
+        return _rows(self._scan(_What.DRAFT_SCAN, prefix, at, after, limit).bytes)
 
     def put(self, key: str, value: Json) -> None:
         """Puts a value at the key."""
-        self._at()._call(_What.DRAFT_PUT, a=key.encode(), b=json_bytes(value))
+        self._call(_What.DRAFT_PUT, a=key.encode(), b=json_bytes(value))
 
     def delete(self, key: str) -> None:
         """Takes the key out, whether or not it was there."""
-        self._at()._call(_What.DRAFT_DEL, a=key.encode())
+        self._call(_What.DRAFT_DEL, a=key.encode())
 
 
 Mutator = Callable[[Draft, Json], None]
@@ -655,9 +788,9 @@ class Group:
         returned = _library().giq_open(*given, _within("slots", slots, 2**32 - 1), own, handles, places)
         if returned == Why.BAD_RULES:
             raise Refusal(Why.BAD_RULES, fault=_rules_fault(texts[-1]))
-        _done(returned)
-        unruled = None if mutators is None else "_" * (1 + max(map(len, rules or {}), default=0))
-        self.places = [Place(handle, mutators or {}, unruled) for handle in handles]
+        if returned < 0:
+            raise Refusal(Why(returned))
+        self.places = [Place(handle, mutators or {}) for handle in handles]
         """The places; the group is freed with the last of them."""
 
     def close(self) -> None:

@@ -11,9 +11,8 @@ A library's group never grows. Where a change is refused with `Full` a group of 
 journal has is played in it, and it takes the other's place: with the gate held, by the thread that met it, and not
 while a pull ends on another thread, which is waited for. Queries go on in the old group, whose map is the same.
 
-A query is as of one moment. It reads at once, and that counts where no change was under way or began meanwhile: the
-flags `_mutating` and `_pulling` are set before the counts `_mutations` and `_pulls` are raised, and these before the
-library is called. Else it reads again, in a change that is given up, or with rules with the gate held.
+A query is a reading of the library, as of one moment. It has a place so long, which is not its client's own: so no
+change waits for a query, and a query for none, but for another query of its client.
 
 Locks are taken in this order: the turnstile, the gate, a place's. The pull's thread has its own place's when it takes
 the gate; no other thread calls that place.
@@ -25,23 +24,25 @@ import contextlib
 import json
 import threading
 import time
-from collections.abc import Callable, Iterator, Mapping
+from collections.abc import Callable, Mapping
 from typing import Any
 
-from .edge import Draft, Ended, Place, Refusal, Ticket, Why, json_bytes
+from .edge import Ended, Place, Reading, Refusal, Ticket, Why, json_bytes
 from .journal import Entry, Journal, Mutation, Response, mutation_of, response_of
 from .loops import Closed
 from .playing import HOUSE, MOST_SLOTS, PULL, PUSH, TELL, Inside, Opened, Player, Runs, TooLarge, Unplayable
 from .store import Identity, JournalFile, SetAside
-from .transactions import Mutator, NotingTransaction, Query, ReadTransaction, Reads
+from .subscriptions import Moment
+from .transactions import Mutator, NotingTransaction, Query, QueryTransaction, Reads
 
 Json = Any
 
 MOST_PLACES = 256
+MOST_CLIENTS = MOST_PLACES - HOUSE - 1
 TRIES = 50
 """How often a change is tried that a refusal only puts off."""
 WAIT = 60.0
-"""How many seconds a change or a query waits for a pull that ends on another thread, at the most."""
+"""How many seconds a change waits for a pull that ends on another thread, at the most."""
 AGAIN = (Why.MOVED, Why.BUSY, Why.GONE)
 LOST = "the server does not know the group any more: open a new one"
 ALONE = "a query or a mutator calls its transaction alone, not a client"
@@ -62,10 +63,10 @@ class NotSafe(Exception):
 
 
 class Seat:
-    """Where a client of the program sits, until it leaves."""
+    """Where a client of the program sits, until it leaves, and where its queries are read."""
 
-    def __init__(self, number: int, client: str) -> None:
-        self.number, self.client = number, client
+    def __init__(self, number: int, reader: int, client: str) -> None:
+        self.number, self.reader, self.client = number, reader, client
         self.last = 0
         """The ID of its last mutation that the journal has."""
         self.has_left = False
@@ -86,8 +87,8 @@ class KeptGroup:
         on_error: Callable[[str, Exception], None],
     ) -> None:
         """Raises `Unplayable` where the entries do not give the group that they were written for."""
-        if not 1 <= clients <= MOST_PLACES - HOUSE:
-            raise ValueError(f"clients is not from 1 to {MOST_PLACES - HOUSE}: {clients}")
+        if not 1 <= clients <= MOST_CLIENTS:
+            raise ValueError(f"clients is not from 1 to {MOST_CLIENTS}: {clients}")
         self.identity = identity
         self.journal = Journal(ordered=mutators is None, entries=entries)
         self.journal.state.forget_quiet()
@@ -101,13 +102,12 @@ class KeptGroup:
         self._runs = None if mutators is None else Runs(mutators, self._inside, on_error)
         if self._runs is not None:
             self._runs.before_rebase = self._lose_patience
-        self._player = Player(identity, self._runs, rules, HOUSE + clients)
+        self._clients, self._readers = clients, min(clients, MOST_PLACES - HOUSE - clients)
+        self._player = Player(identity, self._runs, rules, clients=clients, readers=self._readers)
         self._file: JournalFile | None = None
         self._seats: list[Seat] = []
-        self._clients = clients
         self._is_closed = self._is_lost = False
-        self._mutating = self._pulling = False
-        self._mutations = self._pulls = 0
+        self._pulling = False
         self._ticket: tuple[Place, Ticket] | None = None
         self._holds = False  # whether the pull's thread has the gate
         self._patience = 0
@@ -165,7 +165,8 @@ class KeptGroup:
             if not free:
                 raise ValueError(f"{self._clients} clients are open: let one leave, or ask for more (clients=)")
             number = min(free)
-            self._seats.append(Seat(number, self._opened.places[number].sit()))
+            reader = HOUSE + self._clients + (number - HOUSE) % self._readers
+            self._seats.append(Seat(number, reader, self._opened.places[number].sit()))
             return self._seats[-1]
 
     def leave(self, seat: Seat) -> None:
@@ -219,18 +220,13 @@ class KeptGroup:
 
     def _made(self, seat: Seat, name: str, args: bytes, now: int) -> int:
         """Makes the mutation, with the gate held: its ID."""
-        try:
-            for _ in range(TRIES):
-                self._check_open(seat)
-                self._mutating = True
-                self._mutations += 1
-                place = self._opened.places[seat.number]
-                try:
-                    return place.mutate_json(name, args, now)
-                except Refusal as refusal:
-                    self._mend(place, refusal)
-        finally:
-            self._mutating = False
+        for _ in range(TRIES):
+            self._check_open(seat)
+            place = self._opened.places[seat.number]
+            try:
+                return place.mutate_json(name, args, now)
+            except Refusal as refusal:
+                self._mend(place, refusal)
         raise Refusal(Why.MOVED)
 
     def _note(self, seat: Seat, mutation: Mutation) -> int:
@@ -286,9 +282,17 @@ class KeptGroup:
         with self._lock:
             return next(iter(self.journal.state.pending), None)
 
-    def push_body(self) -> bytes:
-        """The body of a push of all that is pending."""
-        return self._place(PUSH).push()
+    def unpushed(self, pushed: Mapping[str, int]) -> tuple[int, tuple[str, int]] | None:
+        """How many of the oldest pending mutations are no later than these last IDs of clients, and the next one."""
+        with self._lock:
+            for skip, (client, number) in enumerate(self.journal.state.pending):
+                if number > pushed.get(client, 0):
+                    return skip, (client, number)
+        return None
+
+    def push_body(self, skip: int = 0) -> bytes:
+        """The body of a push of what is pending, but for the oldest so many."""
+        return self._place(PUSH).push(skip)
 
     # ---- pulls
 
@@ -311,7 +315,6 @@ class KeptGroup:
         with self._lock:
             self._check_open()
             self._pulling = True
-            self._pulls += 1
             before, self._pending_keys = self._pending_keys, set()
         try:
             if self._runs is None:
@@ -388,62 +391,31 @@ class KeptGroup:
 
     # ---- queries
 
-    def _place(self, seat: int) -> Place:
-        opened = self._opened
+    def _place(self, number: int) -> Place:
+        return self._place_of(self._opened, number)
+
+    def _place_of(self, opened: Opened, number: int) -> Place:
         if self._is_closed:
             raise Closed("the group is closed")
-        return opened.places[seat]
+        return opened.places[number]
 
     def query(self, seat: Seat | None, query: Query, reads: Reads | None = None) -> Json:
-        """What the query answers, as of one moment. It may be run twice.
-
-        Without a seat it is a subscription's, and notes what it read.
-        """
-        inside = self._inside
-        if inside.busy:
+        """What the query answers, as of one moment. Without a seat it is a subscription's, and notes what it read."""
+        if self._inside.busy:
             raise RuntimeError(ALONE)
         if seat is not None and seat.has_left:
             raise Closed("the client has left")
-        place = self._place(TELL if seat is None else seat.number)
-        inside.busy = True
-        try:
-            mutations, pulls = self._mutations, self._pulls
-            if not self._mutating and not self._pulling:
-                try:
-                    result = query(_transaction(place, seat, reads))
-                except Exception:
-                    if mutations == self._mutations and pulls == self._pulls:
-                        raise
-                else:
-                    if mutations == self._mutations and pulls == self._pulls:
-                        return result
-            return self._query_still(place, query, seat, reads)
-        finally:
-            inside.busy = False
+        with self._place(TELL if seat is None else seat.reader).reading() as reading:
+            self._inside.busy = True
+            try:
+                return query(_transaction(reading, seat, reads))
+            finally:
+                self._inside.busy = False
 
-    def _query_still(self, place: Place, query: Query, seat: Seat | None, reads: Reads | None) -> Json:
-        if reads is not None:
-            reads.clear()
-        with contextlib.ExitStack() as stack:
-            draft = self._look(stack, place)
-            if draft is None:
-                stack.enter_context(self._still())
-            return query(_transaction(draft or place, seat, reads))
-
-    def _look(self, stack: contextlib.ExitStack, place: Place) -> Draft | None:
-        """The map of a change that is given up. None where there is none: no slot is free, or the group is closed."""
-        if self._runs is not None:
-            with contextlib.suppress(Refusal):
-                return stack.enter_context(place.look())
-        return None
-
-    @contextlib.contextmanager
-    def _still(self) -> Iterator[None]:
-        """No change is made meanwhile."""
-        with self._gate:
-            if not self._gate.wait_for(lambda: not self._pulling, WAIT):
-                raise Refusal(Why.MOVED)
-            yield
+    def moment(self) -> Moment:
+        """The group's moment. A group that has grown numbers its moments anew, and has more slots."""
+        opened = self._opened
+        return opened.slots, self._place_of(opened, TELL).moment()
 
     # ---- the end
 
@@ -463,7 +435,7 @@ class KeptGroup:
             self._opened = Opened([], self._opened.slots)
 
 
-def _transaction(source: Draft | Place, seat: Seat | None, reads: Reads | None) -> ReadTransaction:
+def _transaction(reading: Reading, seat: Seat | None, reads: Reads | None) -> QueryTransaction:
     if reads is not None:
-        return NotingTransaction(source, reads)
-    return ReadTransaction(source, None if seat is None else seat.client)
+        return NotingTransaction(reading, reads)
+    return QueryTransaction(reading, None if seat is None else seat.client)

@@ -24,7 +24,7 @@ from .transactions import Mutator, WriteTransaction
 Json = Any
 
 PUSH, PULL, TELL, PLAY, HOUSE = range(5)
-"""The places of the layer's own; clients of the program have those from `HOUSE` on."""
+"""The places of the layer's own; clients of the program have those from `HOUSE` on, and their queries those behind."""
 MOST_SLOTS = 1 << 24
 """The most slots that a group may have."""
 STOPS = (Why.NO_MEMORY, Why.MOVED, Why.BUSY, Why.GONE, Why.FULL, Why.NO_PLACE)
@@ -122,10 +122,16 @@ class Opened:
 
 
 class Player:
-    """Opens groups of one identity with these mutators or rules, and so many places, and plays entries in them."""
+    """Opens groups of one identity with these mutators or rules, and plays entries in them.
 
-    def __init__(self, identity: Identity, runs: Runs | None, rules: dict[str, Json] | None, places: int) -> None:
-        self._identity, self._runs, self._rules, self._count = identity, runs, rules, places
+    A group has places for so many clients of the program, and behind them so many at which queries are read.
+    """
+
+    def __init__(
+        self, identity: Identity, runs: Runs | None, rules: dict[str, Json] | None, *, clients: int, readers: int
+    ) -> None:
+        self._identity, self._runs, self._rules = identity, runs, rules
+        self._readers = range(HOUSE + clients, HOUSE + clients + readers)
 
     def opened(self, entries: list[Entry], slots: int) -> Opened:
         """A group that is what the entries say, of so many slots, or twice as many, until they are enough.
@@ -149,8 +155,8 @@ class Player:
         """The places of a new group. What is refused here, as faulty rules, is the program's fault."""
         profile, schema = self._identity.profile, self._identity.schema
         group = Group(self._identity.group, profile=profile, schema=schema, rules=self._rules, mutators=self._runs,
-                      slots=slots, places=self._count)
-        for number in (PUSH, PULL, TELL):
+                      slots=slots, places=self._readers.stop)
+        for number in (PUSH, PULL, TELL, *self._readers):
             group.places[number].sit()
         return group.places
 

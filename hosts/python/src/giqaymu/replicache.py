@@ -40,7 +40,7 @@ from .recovery import Pokes, Recovery
 from .store import Durability, Identity, JournalFile, Left, SetAside, left_behind
 from .subscriptions import Diff, Listener, Subscription, Teller, Watch
 from .syncing import Poster, Syncer
-from .transactions import Mutator, Query, ReadTransaction
+from .transactions import Mutator, Query
 from .transport import Transport
 
 Json = Any
@@ -95,7 +95,7 @@ class _Shared:
         store: tuple[Path, Durability] | None,
         poke_url: str,
     ) -> None:
-        self.teller = Teller(lambda query, reads: self.kept.query(None, query, reads))
+        self.teller = Teller(lambda query, reads: self.kept.query(None, query, reads), lambda: self.kept.moment())
         self.announcer = Announcer(self.teller, callbacks)
         self._group = group
         self.kept = self._kept_in(store, identity) if store else self._kept(identity, [])
@@ -289,10 +289,10 @@ class Replicache:
         """Whether the last request was answered with the status 200 (Replicache: `online`)."""
         return self._shared.syncer.online
 
-    def query(self, query: Callable[[ReadTransaction], Json]) -> Json:
+    def query(self, query: Query) -> Json:
         """What the query answers, as of one moment (Replicache: `query`, a promise).
 
-        It may be run twice, so it does nothing but read and answer. What it raises is raised. Raises `Closed`.
+        It does nothing but read and answer. What it raises is raised. Raises `Closed`.
         """
         return self._kept.query(self._seat, query)
 

@@ -2,7 +2,9 @@
 
 One thread calls them all, one at a time, so a callback may call anything of the layer, and makes the others wait. Who
 changes the group says which keys may have changed (None: any); the thread runs the queries anew that read one of them,
-and tells a result that differs from the last one. Changes that come while it works are looked at together.
+and tells a result that differs from the last one. Changes that come while it works are looked at together. A query that
+was run since the group was at this moment isn't run anew: the moment is asked for before any query is run, so what a
+query has seen is no older.
 
 The condition `_wake` protects all fields, but `_told` of what is subscribed, which the thread alone uses. No callback
 and no query is called with it held.
@@ -21,6 +23,8 @@ from .transactions import Query, ReadTransaction, Reads, is_touched
 Json = Any
 Ask = Callable[[Query, Reads | None], Json]
 """Runs a query as of one moment, and remembers what it read."""
+Moment = tuple[int, int]
+"""By what a group's states are told apart."""
 log = logging.getLogger("giqaymu")
 
 
@@ -46,11 +50,18 @@ class Subscription:
         self._query, self._on_data, self._on_error, self._is_equal = query, on_data, on_error, is_equal
         self._reads: Reads | None = None  # None: it was not told yet
         self._told: Json = None
+        self._moment: Moment | None = None
 
-    def tell(self, ask: Ask, keys: set[str] | None) -> None:
-        """Runs the query anew where these keys may change its result."""
-        if self._reads is not None and keys is not None and not is_touched(self._reads, keys):
+    def _may_differ(self, keys: set[str] | None, moment: Moment) -> bool:
+        if self._reads is None:
+            return True
+        return moment != self._moment and (keys is None or is_touched(self._reads, keys))
+
+    def tell(self, ask: Ask, keys: set[str] | None, moment: Moment) -> None:
+        """Runs the query anew where these keys may change its result, and it hasn't seen this moment."""
+        if not self._may_differ(keys, moment):
             return
+        is_first = self._reads is None
         reads: Reads = set()
         try:
             result = ask(self._query, reads)
@@ -59,7 +70,7 @@ class Subscription:
                 raise
             self._on_error(error)
             return
-        is_first, self._reads = self._reads is None, reads
+        self._reads, self._moment = reads, moment
         if is_first or not self._is_equal(self._told, result):
             self._told = result
             self._on_data(result)
@@ -71,23 +82,27 @@ class Watch:
     def __init__(self, callback: Callable[[list[Diff]], None], prefix: str, *, tells_first: bool) -> None:
         self._callback, self._prefix, self._tells_first = callback, prefix, tells_first
         self._rows: dict[str, Json] | None = None
+        self._moment: Moment | None = None  # at which all rows were looked at
 
-    def tell(self, ask: Ask, keys: set[str] | None) -> None:
+    def tell(self, ask: Ask, keys: set[str] | None, moment: Moment) -> None:
         """Looks at these keys, or at all, and tells what differs."""
+        if self._moment == moment:
+            return
         if self._rows is None:
-            diffs = self._all(ask, {})
+            diffs = self._all(ask, {}, moment)
             if self._tells_first:
                 self._callback(diffs)
             return
         if keys is None:
-            diffs = self._all(ask, self._rows)
+            diffs = self._all(ask, self._rows, moment)
         else:
             diffs = self._some(ask, self._rows, {key for key in keys if key.startswith(self._prefix)})
         if diffs:
             self._callback(diffs)
 
-    def _all(self, ask: Ask, old: dict[str, Json]) -> list[Diff]:
+    def _all(self, ask: Ask, old: dict[str, Json], moment: Moment) -> list[Diff]:
         self._rows = dict(ask(lambda tx: tx.scan(self._prefix), None))
+        self._moment = moment
         return _diffs(old, self._rows)
 
     def _some(self, ask: Ask, rows: dict[str, Json], keys: set[str]) -> list[Diff]:
@@ -122,7 +137,7 @@ class Listener:
     def __init__(self, call: Callable[[], None]) -> None:
         self._call = call
 
-    def tell(self, ask: Ask, keys: set[str] | None) -> None:
+    def tell(self, ask: Ask, keys: set[str] | None, moment: Moment) -> None:
         """Calls it."""
         self._call()
 
@@ -133,9 +148,9 @@ Subscribed = Subscription | Watch | Listener
 class Teller(threading.Thread):
     """The thread that calls back."""
 
-    def __init__(self, ask: Ask) -> None:
+    def __init__(self, ask: Ask, moment: Callable[[], Moment]) -> None:
         super().__init__(name="giqaymu-tell", daemon=True)
-        self._ask = ask
+        self._ask, self._moment = ask, moment
         self._wake = threading.Condition()
         self._subscribed: list[Subscribed] = []
         self._new: list[Subscribed] = []
@@ -197,16 +212,21 @@ class Teller(threading.Thread):
                 self._new, self._keys, self._has_changed = [], set(), False
             for call in calls:
                 self._safely(call)
-            for one in new:
-                self._tell(one, None)
-            for one in others:
-                self._tell(one, keys)
+            if new or others:
+                self._safely(lambda: self._look(new, others, keys))
 
-    def _tell(self, one: Subscribed, keys: set[str] | None) -> None:
+    def _look(self, new: list[Subscribed], others: list[Subscribed], keys: set[str] | None) -> None:
+        moment = self._moment()
+        for one in new:
+            self._tell(one, None, moment)
+        for one in others:
+            self._tell(one, keys, moment)
+
+    def _tell(self, one: Subscribed, keys: set[str] | None, moment: Moment) -> None:
         with self._wake:
             if one not in self._subscribed:
                 return
-        self._safely(lambda: one.tell(self._ask, keys))
+        self._safely(lambda: one.tell(self._ask, keys, moment))
 
     def _safely(self, call: Callable[[], None]) -> None:
         try:

@@ -194,11 +194,19 @@ class Syncer:
 
     def _push_body(self) -> tuple[bytes, dict[str, int]]:
         """A body of what is pending and no answered push had, and the last ID that it has of each client."""
-        body = self._kept.push_body()
-        whole = json.loads(body)
         with self._lock:
             sends_all, self._sends_all = self._sends_all, False
             pushed = {} if sends_all else dict(self._pushed)
+        next_one = self._kept.unpushed(pushed)
+        if next_one is None:
+            return b"", {}
+        skip, first = next_one
+        body = self._kept.push_body(skip)
+        whole = json.loads(body)
+        if skip and [first] != [(one["clientID"], one["id"]) for one in whole["mutations"][:1]]:
+            # A pull has confirmed some since.
+            body = self._kept.push_body()
+            whole = json.loads(body)
         mutations = [one for one in whole["mutations"] if one["id"] > pushed.get(one["clientID"], 0)]
         if len(mutations) < len(whole["mutations"]):
             body = json_bytes({**whole, "mutations": mutations})

@@ -1,7 +1,7 @@
 """What a query reads, and what a mutator reads and writes.
 
-A transaction is good until the function returns that it was handed to, and is used by the thread that has it. A
-mutator's is refused then, with `Why.NOT_ASKED`.
+A transaction is good until the function returns that it was handed to, and is used by the thread that has it. Then a
+query's is refused with `Why.NOT_READ`, and a mutator's with `Why.NOT_ASKED`.
 """
 
 from __future__ import annotations
@@ -9,7 +9,7 @@ from __future__ import annotations
 from collections.abc import Callable
 from typing import Any
 
-from .edge import Draft, Place, Row
+from .edge import Draft, Reading, Row
 
 Json = Any
 
@@ -31,12 +31,12 @@ class ReadTransaction:
 
     reason = "query"
 
-    def __init__(self, source: Draft | Place, client_id: str | None = None) -> None:
+    def __init__(self, source: Draft | Reading, client_id: str | None = None) -> None:
         """For the layer alone."""
         self._source = source
         self.client_id = client_id
-        """The ID of the client that asks. None in a mutator, since a rebase does not know whose mutation it runs: hand
-        an ID over among the arguments."""
+        """The ID of the client that asks. None in a mutator, which may not depend on whose mutation it runs: hand an ID
+        over among the arguments."""
 
     def get(self, key: str, default: Json = None) -> Json:
         """The value at the key, or the default where there is none."""
@@ -60,32 +60,65 @@ class ReadTransaction:
         return self._source.scan(prefix, at=at, after=after, limit=limit)
 
 
-class NotingTransaction(ReadTransaction):
+class QueryTransaction(ReadTransaction):
+    """What a query reads: the map, and what the server last sent, both as of one moment."""
+
+    __slots__ = ("_reading",)
+
+    def __init__(self, reading: Reading, client_id: str | None = None) -> None:
+        """For the layer alone."""
+        super().__init__(reading, client_id)
+        self._reading = reading
+
+    def pulled_get(self, key: str, default: Json = None) -> Json:
+        """`get` of what the server last sent, without what is pending. Not Replicache's."""
+        return self._reading.pulled_get(key, default)
+
+    def pulled_scan(
+        self, prefix: str = "", *, at: str | None = None, after: str | None = None, limit: int | None = None
+    ) -> list[Row]:
+        """`scan` of what the server last sent, without what is pending. Not Replicache's."""
+        return self._reading.pulled_scan(prefix, at=at, after=after, limit=limit)
+
+
+class NotingTransaction(QueryTransaction):
     """One that notes what is read, for a subscription."""
 
     __slots__ = ("_reads",)
 
-    def __init__(self, source: Draft | Place, reads: Reads) -> None:
+    def __init__(self, reading: Reading, reads: Reads) -> None:
         """For the layer alone."""
-        super().__init__(source)
+        super().__init__(reading)
         self._reads = reads
 
     def get(self, key: str, default: Json = None) -> Json:
         """As `ReadTransaction.get`."""
         self._reads.add((False, key))
-        return self._source.get(key, default)
+        return super().get(key, default)
 
     def has(self, key: str) -> bool:
         """As `ReadTransaction.has`."""
         self._reads.add((False, key))
-        return self._source.has(key)
+        return super().has(key)
 
     def scan(
         self, prefix: str = "", *, at: str | None = None, after: str | None = None, limit: int | None = None
     ) -> list[Row]:
         """As `ReadTransaction.scan`."""
         self._reads.add((True, prefix))
-        return self._source.scan(prefix, at=at, after=after, limit=limit)
+        return super().scan(prefix, at=at, after=after, limit=limit)
+
+    def pulled_get(self, key: str, default: Json = None) -> Json:
+        """As `QueryTransaction.pulled_get`."""
+        self._reads.add((False, key))
+        return super().pulled_get(key, default)
+
+    def pulled_scan(
+        self, prefix: str = "", *, at: str | None = None, after: str | None = None, limit: int | None = None
+    ) -> list[Row]:
+        """As `QueryTransaction.pulled_scan`."""
+        self._reads.add((True, prefix))
+        return super().pulled_scan(prefix, at=at, after=after, limit=limit)
 
 
 class WriteTransaction(ReadTransaction):
@@ -122,5 +155,5 @@ class WriteTransaction(ReadTransaction):
 Mutator = Callable[[WriteTransaction, Json], Json]
 """A mutator: its transaction, and the arguments. It raises `Refuse(code)`, or anything else, to change nothing."""
 
-Query = Callable[[ReadTransaction], Json]
-"""A query. It may be run again, so it does nothing but read and answer."""
+Query = Callable[[QueryTransaction], Json]
+"""A query. A subscription runs it again and again, so it does nothing but read and answer."""

@@ -2,7 +2,8 @@ use Rattle.std.proofs.Common.{Some, sym, ap, ◌∙◌}
 use Rattle.std.specs.FinMap as finite
 use Rattle.client_desk.specs.declared.outcomes.Outcome.TheVariants.{Done}
 use Rattle.client_desk.specs.Told.{told, value_told}
-use Rattle.client_desk.proofs.Asking.{appended, map_told}
+use Rattle.client_desk.proofs.Asking.{map_told}
+use Rattle.client_desk.proofs.Telling.{appended}
 use Rattle.client_desk.proofs.drafts.tell_drafted.Goals as goal
 
 pub returns-in-Ok-Some : goal.returns-in-Ok-Some

@@ -1,4 +1,4 @@
-use Rattle.std.proofs.Common.{◌≡◌, ◌∷◌, ◌++◌, [], ℕ, arith, length, map, List, Some, Option, refl, sym, subst, ap}
+use Rattle.std.proofs.Common.{◌≡◌, ◌<◌, ◌∷◌, ◌++◌, [], ℕ, arith, length, map, List, Some, Option, refl, sym, subst, ap}
 use Rattle.std.proofs.Common.{◌∙◌, append-nil, append_assoc}
 use Rattle.std.specs.List.{Contains}
 use Rattle.std.proofs.lemmas.List.Elements.{All-nil}
@@ -23,7 +23,7 @@ use Rattle.answered.proofs.Losing.{point_since}
 use Rattle.publishing.proofs.Reaching.{placed-reached}
 use Rattle.commit_graph.specs.Reach.{Reaches}
 use Rattle.commit_graph.proofs.Reached.{reaches_stays}
-use Rattle.publishing.proofs.Carrying.{placed_among, placed-spelled}
+use Rattle.publishing.proofs.Carrying.{placed_among, placed-later, placed-spelled}
 use Rattle.publishing.specs.Placed.{LieBelow}
 use Rattle.publishing.specs.Retiring.{AreFreed, GivenUp, GivesOneUp, drafted}
 use Rattle.group_steps.specs.Changing.{FreesMove}
@@ -60,8 +60,12 @@ exchange-requires-clause-follows g c κs within =
     let spelled = placed-spelled (drawn old)
     (drawn new) p.draft refs c.in_ok-refs.ensures.placed m.leads.contents m.leads.drawn m.leads.first p.at
     (version_of means (after_change st change)) m.leads.then in
+    let later = placed-later (drawn old) (drawn new) p.draft refs c.in_ok-refs.ensures.placed m.leads.contents
+    m.leads.first p.at (version_of means (after_change st change)) m.leads.then m.leads.new p.base
+    (version_of means st) m.base in
     record {
       state = st;
+      later = subst (λ (r : Ref). stamp_of p.base < stamp_of r) (sym placed) later;
       before = spelled-stays old new c.place_draft.ensures.seat.later.seen (stamp_of c.args.proposal.base)
           (version_of means st) m.base;
       accepted = m.leads.accepted;

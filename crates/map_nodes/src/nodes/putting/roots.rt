@@ -74,6 +74,7 @@ fn take_above(alloc: Global, keys: &[Text], key: &Text) -> Result<Above, AllocEr
 }
 
 /// A map's root whose chunk was split, if it was: both halves stand below it.
+#[inline(never)]
 pub(crate) fn topped(
     alloc: Global,
     node: Box<OwnNode>,

@@ -21,6 +21,7 @@ use group_history::{Chunk, Inner, Leaf, Node, Ref, Refusal};
 use map_chunks::Draft;
 
 // Appends the chunk of a step, where the one below it has this name.
+#[inline(always)]
 fn freeze_step(step: Step, below: Ref, draft: &mut Draft) -> Result<Ref, Refusal>
     requires keys { AreKeys (arc_value step.keys) }
     requires pairs { length step.children.items ≡ length (arc_value step.keys) }

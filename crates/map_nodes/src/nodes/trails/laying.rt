@@ -59,6 +59,7 @@ impl Laying {
     }
 
     // A new leaf, and room for so many steps above it.
+    #[inline(always)]
     fn begin(&mut self, alloc: Global, above: usize, end: End) -> Result<(), AllocError>
         ensures { OnOk result ((self.new.steps.items ≡ []) × (self.new.end ≡ Some end)) }
     {
@@ -130,6 +131,7 @@ fn put_found(
 }
 
 // What becomes of a leaf that has one row more, before the one at a place.
+#[inline(never)]
 fn put_absent(
     leaf: &Leaf,
     place: usize,
@@ -196,6 +198,7 @@ fn change_leaf<F: FnOnce(Option<Json>) -> Result<Update, Stop>>(
 }
 
 // The first keys of an inner chunk, of which the first is the key where that is below it.
+#[inline(always)]
 fn step_keys(inner: &Inner<Ref>, place: usize, down: &Down<'_>) -> Result<Arc<Keys>, AllocError>
     requires place { IsPlace down.now.key.now (keys_of inner.now) place }
     ensures { IfOk result (λ keys. AreKeys (arc_value keys) × ((lower : Option Bytes)
@@ -203,7 +206,7 @@ fn step_keys(inner: &Inner<Ref>, place: usize, down: &Down<'_>) -> Result<Arc<Ke
         × (arc_value keys ≡ lowered place lower (keys_of inner.now)))) }
 {
     let firsts = inner.firsts();
-    if place > 0 || !down.searched.order_of(&firsts.as_slice()[0]).is_gt() {
+    if place > 0 || !down.searched.is_below(&firsts.as_slice()[0]) {
         return Ok(firsts.clone()?);
     }
     let mut keys = NodeKeys::shared(firsts.clone()?);
@@ -213,6 +216,7 @@ fn step_keys(inner: &Inner<Ref>, place: usize, down: &Down<'_>) -> Result<Arc<Ke
 }
 
 // An inner chunk copied, above the new chunk in the place of the child at a place.
+#[inline(always)]
 fn copied_step(inner: &Inner<Ref>, place: usize, down: &Down<'_>) -> Result<Step, AllocError>
     requires place { IsPlace down.now.key.now (keys_of inner.now) place }
     ensures { IfOk result (λ s. IsCopiedStep inner.now down.now.key.now s × (s.place ≡ place)) }
@@ -246,6 +250,7 @@ fn child_at(inner: &Inner<Ref>, place: usize) -> Ref
 }
 
 // What the way through an inner chunk ends in, where the way below the child at a place ends so.
+#[inline(always)]
 fn step_up(
     inner: &Inner<Ref>,
     place: usize,
@@ -343,6 +348,7 @@ fn change_in<C: Chunks, F: FnOnce(Option<Json>) -> Result<Update, Stop>>(
 
 impl Trail {
     /// The trail of new chunks.
+    #[inline(always)]
     pub(crate) fn of(laying: Laying) -> Trail
         requires { (e : Ends) × (laying.end ≡ Some e) × IsTrail (reverse laying.steps.items) e }
         ensures { (e : Ends) → laying.end ≡ Some e → result ≡ trail_seen (reverse laying.steps.items) e }

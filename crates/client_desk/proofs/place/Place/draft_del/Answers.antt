@@ -13,7 +13,8 @@ invariant_of-self-2 g c =
       tt,
       asked_written g.M.Hosted.had g.M.Means.means _ change c.in-Asking.asking c.del_drafted.new.asking
           (told_alone c.del_drafted.result) c.del_drafted.ensures was.2,
-      c.self.invariant.3,
+      tt,
+      c.self.invariant.4,
     )
 
 pub returns : goal.returns

@@ -13,7 +13,8 @@ invariant_of-self-2 g c =
       tt,
       asked_written g.M.Hosted.had g.M.Means.means _ change c.in-Asking.asking c.put_drafted.new.asking
           (told_alone c.put_drafted.result) c.put_drafted.ensures was.2,
-      c.self.invariant.3,
+      tt,
+      c.self.invariant.4,
     )
 
 pub returns : goal.returns

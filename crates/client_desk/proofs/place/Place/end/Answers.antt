@@ -46,7 +46,7 @@ returns g c =
     taken.left)
     (stood step.result (λ a. asks a × IsFirst has a × IsUnwritten has a)
     (λ next reply. EndsPull means ⊤ tries client next kept.cookie body reply) b c.take.new.self new t taken.seat
-    taken.left
+    taken.reading taken.left
     (tells_all step.result asks (IsFirst has) (IsUnwritten has)
     (λ next reply. EndsPull means ⊤ tries client next kept.cookie body (map_ok reply_seen reply)) step.ensures.told
     (told_by step.result (λ h. IsFirst h) _ has laws.same step.ensures.first)

@@ -30,7 +30,7 @@ returns-in-Client g c =
     taken.client
     (stood step.result (λ a. IsAsked means ⊤ tries client change a × IsFirst has a × IsUnwritten has a)
     (λ next reply. EndsCall means ⊤ tries client next change reply) c.args.self.now c.take.new.self c.go_on.new.self t
-    taken.seat taken.left
+    taken.seat taken.reading taken.left
     (tells_all step.result (IsAsked means ⊤ tries client change) (IsFirst has) (IsUnwritten has)
     (λ next reply. EndsCall means ⊤ tries client next change (map_ok reply_seen reply)) step.ensures.told
     (told_by step.result (λ h. IsFirst h) _ has laws.same step.ensures.first)

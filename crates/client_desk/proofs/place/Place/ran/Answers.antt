@@ -22,7 +22,7 @@ returns-in-Asking g c =
     let ran = c.args.ran in let t = told_alone c.go_on.result in
     by_run (GoesOn has means ran) a c.args.self.now c.go_on.new.self t taken.asking
     (stood c.ran-step.result (AsksNext has means a ran) (EndsRuns means a) c.args.self.now c.take.new.self
-    c.go_on.new.self t taken.seat taken.left
+    c.go_on.new.self t taken.seat taken.reading taken.left
     (tells_next has means c.ran-step.result a ran c.ran-step.ensures.told
     (told_by c.ran-step.result (λ h. Follows h means a ran) _ has laws.same c.ran-step.ensures.next)
     (told_by c.ran-step.result (λ h. IsUnwritten h) _ has laws.same c.ran-step.ensures.fresh)) c.go_on.ensures)

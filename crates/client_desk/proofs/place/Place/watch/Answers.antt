@@ -13,9 +13,10 @@ invariant_of-self g c =
       was.0,
       was.1,
       was.2,
+      was.3,
       kept_watch _ _ c.in-Client.client c.args.keep _ _ _ _ (ap (λ sits. client_of sits) c.in-Client.is) was.1
           (ap (λ (w : Watched). w.book) c.watch-watch.ensures)
-          (subst (AreOf _) (sym c.make_room.ensures) (room_of _ c.args.keep _ was.3)) c.keep_watch.ensures,
+          (subst (AreOf _) (sym c.make_room.ensures) (room_of _ c.args.keep _ was.4)) c.keep_watch.ensures,
     )
 
 pub returns-in-Ok : goal.returns-in-Ok

@@ -5,7 +5,7 @@ use Rattle.group_history.specs.Refs.{stamp_of}
 use Rattle.group_history.specs.State.{last_id}
 use Rattle.group_history.specs.Spelling.{Version, version_at}
 use Rattle.commit_graph.proofs.Chained.{IsSearch, ahead}
-use Rattle.commit_graph.proofs.states.last_id_since.Given as goal
+use Rattle.commit_graph.proofs.states.last_id_from.Given as goal
 
 abbrev pub invariant-loop-next : goal.invariant-loop-next
 invariant-loop-next g l = (v : Version) ×

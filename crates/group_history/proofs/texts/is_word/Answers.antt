@@ -1,7 +1,7 @@
 use Rattle.std.proofs.Common.{◌∙◌, ap, arith, length, sym}
 use Rattle.std.proofs.lemmas.List.{take_all}
 use Rattle.std.proofs.lemmas.Slice.Eq.{bytes_eq-Decides}
-use Rattle.pull_patch.proofs.plain.words.is_word.Goals as goal
+use Rattle.group_history.proofs.texts.is_word.Goals as goal
 
 pub returns : goal.returns
 returns g c =

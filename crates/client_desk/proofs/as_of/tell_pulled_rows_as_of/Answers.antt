@@ -1,0 +1,24 @@
+use Rattle.std.proofs.Common.{ℕ, Ok, Err, refl, ap, ◌∙◌}
+use Rattle.std.specs.Global.{Vec}
+use Rattle.group_history.specs.Scans.{rows_of}
+use Rattle.client_desk.specs.Answers.{read_by}
+use Rattle.client_desk.specs.Told.{told}
+use Rattle.client_desk.specs.declared.outcomes.Outcome.TheVariants.{Done, Refused}
+use Rattle.client_desk.proofs.as_of.tell_pulled_rows_as_of.Goals as goal
+
+pub returns-in-Ok : goal.returns-in-Ok
+returns-in-Ok g c = record {
+  reply = Ok (rows_of c.args.scan.now (read_by c.args.reader.now).pulled);
+  answer = refl;
+  refused = tt;
+  told = ap (told Done) c.in-Ok.ensures.answer;
+}
+
+pub returns-in-Err : goal.returns-in-Err
+returns-in-Err g c = record {
+  reply = Err c.in-Err.refusal;
+  answer = tt;
+  refused = c.in-Err.ensures.refused;
+  told = ap (λ (v : Vec ℕ). told (Refused c.in-Err.refusal) v.items) c.replace.ensures.after
+      ∙ ap (told (Refused c.in-Err.refusal)) c.new.ensures.items;
+}
