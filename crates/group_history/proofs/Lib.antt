@@ -12,3 +12,4 @@ pub mod Spellings
 mod InPlace
 pub mod Fronts
 pub mod Numbered
+pub mod Rising

@@ -1,0 +1,3 @@
+mod Steps
+mod Merging
+mod Lawful
