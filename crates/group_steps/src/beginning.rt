@@ -10,7 +10,7 @@ ghost use Rattle.group_history.specs.Pull.{Pull};
 ghost use Rattle.group_history.specs.Pulling.{after_pull, end_at};
 ghost use Rattle.group_history.specs.Record.{IsAccepted};
 ghost use Rattle.group_history.specs.State.{State, pulled_state, replayed, view_of};
-ghost use Rattle.head_word.specs.Books.{drawn, next_stamp};
+ghost use Rattle.head_word.specs.Books.{drawn};
 ghost use Rattle.map_chunks.specs.Drafts.{AreNeeded, IsLate};
 ghost use Rattle.map_tree.specs.Trees.{tree_map};
 ghost use Rattle.commit_graph.specs.Chains.{IsBaseOf};
@@ -24,7 +24,7 @@ ghost use Rattle.group_steps.specs.Runs.{HasNew, IsFirst, IsNew, IsOnLeft, MaySt
 
 use crate::ending::{end_new, finish, go_on};
 use crate::places::At;
-use crate::proposing::{Request, Spot, check_next, propose_closing};
+use crate::proposing::{Spot, check_next};
 use crate::runs::{AskedRun, BoxedRun, Chain, Replaying, Step};
 use crate::views::last_known;
 use chunk_slots::Slots;
@@ -33,14 +33,14 @@ use group_history::{Change, ConfirmedIds, Cookie, Ended, Means, Mutation, PullOk
 use map_chunks::Draft;
 use map_tree::Tree;
 use replays::{
-    OwnRun, RunMap, Runs, Setting, add_patched, after_changes, base_at, look_at, pending_at,
-    pull_outcome, run_on, run_pending,
+    OwnRun, RunMap, Runs, Setting, add_patched, after_changes, pending_at, pull_outcome, run_on,
+    run_pending,
 };
 use std::marker::Brand;
 
 // The commit at which a client's last id is found, which a mutation has to follow: the one where the call stands,
 // unless it is another id there.
-fn catch_up<M: Means, S: Slots<M>>(
+pub(crate) fn catch_up<M: Means, S: Slots<M>>(
     at: &At<'_, M, S>,
     change: &Change,
     found: LastId,
@@ -114,7 +114,7 @@ fn begin_next<M: Runs, S: Slots<M>>(
 }
 
 // What a mutation asks for, where it is its client's next one.
-fn begin_mutation<M: Runs, S: Slots<M>>(
+pub(crate) fn begin_mutation<M: Runs, S: Slots<M>>(
     at: &At<'_, M, S>,
     spot: Spot,
     mutation: &Mutation,
@@ -295,7 +295,7 @@ fn begin_rebase<'a, M: Runs, S: Slots<M>>(
 }
 
 // What the pull asks for first, at an open group of this basis.
-fn begin_outcome<M: Runs, S: Slots<M>>(
+pub(crate) fn begin_outcome<M: Runs, S: Slots<M>>(
     at: &At<'_, M, S>,
     spot: Spot,
     before: &Base,
@@ -324,128 +324,4 @@ fn begin_outcome<M: Runs, S: Slots<M>>(
             return Err(e);
         }
     }
-}
-
-// What the pull asks for first, at an open group.
-#[inline(never)]
-fn begin_pull<'a, M: Runs, S: Slots<M>>(
-    at: &At<'a, M, S>,
-    spot: Spot,
-    ticket: &Cookie,
-    pull: &PullOk,
-) -> Result<Step, Refusal>
-    requires spot { IsSpot M.means at.now spot.tip spot.first }
-    ensures step { (last : ℕ) → IfOk result
-        (MayStep M.has M.means (drawn at.now.mark.log) at.now.commit (state_at at.now) last
-        (changed.Pulled ticket.now pull.now)) }
-    ensures err { (last : ℕ) → IfErr result
-        (IsUnproposed (IsStop S.reused) (change_asked (changed.Pulled ticket.now pull.now))
-        (asked_reply M.means (state_at at.now) last (changed.Pulled ticket.now pull.now))) }
-    ensures first { IfOk result (IsFirst M.has (state_at at.now) (changed.Pulled ticket.now pull.now)) }
-    ensures late { IfErr result (λ e. e ≡ refusal.Stamps → IsLate spot.first) }
-{
-    let before = base_at::<StoreNodes<'a, M, S>, Brand>(at.nodes(), spot.tip)?;
-    begin_outcome(at, spot, &before, ticket, pull)
-}
-
-// The closing of an open group asks for no run.
-#[inline(never)]
-fn begin_closing<M: Runs, S: Slots<M>>(at: &At<'_, M, S>, spot: Spot) -> Result<Step, Refusal>
-    requires spot { IsSpot M.means at.now spot.tip spot.first }
-    ensures step { (last : ℕ) → IfOk result
-        (MayStep M.has M.means (drawn at.now.mark.log) at.now.commit (state_at at.now) last
-        changed.Closed) }
-    ensures err { (last : ℕ) → IfErr result (IsUnproposed (IsStop S.reused) (change_asked changed.Closed)
-        (asked_reply M.means (state_at at.now) last changed.Closed)) }
-    ensures first { IfOk result (IsFirst M.has (state_at at.now) changed.Closed) }
-    ensures late { IfErr result (λ e. e ≡ refusal.Stamps → IsLate spot.first) }
-{
-    match propose_closing(at, spot) {
-        Ok(Some(proposal)) => {
-            return Ok(Step::Move(proposal));
-        }
-        Ok(None) => {
-            return Ok(Step::Same);
-        }
-        Err(e) => {
-            return Err(e);
-        }
-    }
-}
-
-// What the change asks for first, at an open group.
-fn begin_open<M: Runs, S: Slots<M>>(
-    at: &At<'_, M, S>,
-    spot: Spot,
-    request: &Request<'_>,
-) -> Result<Step, Refusal>
-    requires spot { IsSpot M.means at.now spot.tip spot.first }
-    requires asks { MayAsk (drawn at.now.mark.log) request.now.before request.now.change.now }
-    ensures step { IfOk result (MayStep M.has M.means (drawn at.now.mark.log) at.now.commit (state_at at.now)
-        request.now.before.id request.now.change.now) }
-    ensures err { IfErr result (IsUnproposed (IsStop S.reused) (change_asked request.now.change.now)
-        (asked_reply M.means (state_at at.now) request.now.before.id request.now.change.now)) }
-    ensures first { IfOk result (IsFirst M.has (state_at at.now) request.now.change.now) }
-    ensures late { IfErr result (λ e. e ≡ refusal.Stamps → IsLate spot.first) }
-{
-    let Request { change, before } = *request;
-    match change {
-        Change::Mutated(mutation) => {
-            return begin_mutation(at, spot, mutation, before);
-        }
-        Change::Pulled(ticket, pull) => {
-            return begin_pull(at, spot, ticket, pull);
-        }
-        Change::Closed => {
-            return begin_closing(at, spot);
-        }
-    }
-}
-
-// What the change asks for first, drafted under stamps from `first` on.
-fn begin_request<'a, M: Runs, S: Slots<M>>(
-    at: &At<'a, M, S>,
-    first: u64,
-    request: &Request<'_>,
-) -> Result<Step, Refusal>
-    requires asks { MayAsk (drawn at.now.mark.log) request.now.before request.now.change.now }
-    requires first { first ≡ next_stamp at.now.mark.log }
-    ensures step { IfOk result (MayStep M.has M.means (drawn at.now.mark.log) at.now.commit (state_at at.now)
-        request.now.before.id request.now.change.now) }
-    ensures err { IfErr result (IsUnproposed (IsStop S.reused) (change_asked request.now.change.now)
-        (asked_reply M.means (state_at at.now) request.now.before.id request.now.change.now)) }
-    ensures first { IfOk result (IsFirst M.has (state_at at.now) request.now.change.now) }
-    ensures late { IfErr result (λ e. e ≡ refusal.Stamps → IsLate first) }
-{
-    let look = look_at::<StoreNodes<'a, M, S>, Brand>(at.nodes(), at.commit)?;
-    if look.closed {
-        return Err(Refusal::Closed);
-    }
-    let tip = look.tip;
-    begin_open(at, Spot { tip, first }, request)
-}
-
-/// What the change asks for first, drafted under stamps from `first` on. Where its client's last id was found by the
-/// way stays known, also where the change is refused.
-pub(crate) fn begin<M: Runs, S: Slots<M>>(
-    at: &At<'_, M, S>,
-    first: u64,
-    change: &Change,
-    found: &mut LastId,
-) -> Result<Step, Refusal>
-    requires asks { MayAsk (drawn at.now.mark.log) found.old change.now }
-    requires first { first ≡ next_stamp at.now.mark.log }
-    ensures step { IfOk result (MayStep M.has M.means (drawn at.now.mark.log) at.now.commit (state_at at.now)
-        found.old.id change.now) }
-    ensures err { IfErr result (IsUnproposed (IsStop S.reused) (change_asked change.now)
-        (asked_reply M.means (state_at at.now) found.old.id change.now)) }
-    ensures first { IfOk result (IsFirst M.has (state_at at.now) change.now) }
-    ensures late { IfErr result (λ e. e ≡ refusal.Stamps → IsLate first) }
-    ensures kept { StaysFound (drawn at.now.mark.log) found.old found.new change.now }
-{
-    let LastId { id, .. } = *found;
-    let there = catch_up(at, change, *found)?;
-    let before = LastId { at: there, id };
-    *found = before;
-    begin_request(at, first, &Request { change, before })
 }

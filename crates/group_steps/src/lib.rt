@@ -12,8 +12,9 @@
 //! Not proved: that the slot which a pull lets go for a node is the one where the node lies (the book names stamps, not
 //! slots); that the draft for which no slot was found has no more chunks than its map needs.
 //!
-//! A change is told once (`trying.rt`): it is begun at the head (`beginning.rt`), a run is asked for where the group
-//! hasn't the mutator, goes on when the caller says how the run ended (`ending.rt`), and ends by a move of the head.
+//! A change is told once, try by try (`changing.rt`, `trying.rt`): it is begun at the head (`requests.rt`), a run is
+//! asked for where the group hasn't the mutator (`beginning.rt`), goes on when the caller says how the run ended
+//! (`ending.rt`), and ends by a move of the head.
 //! Between the steps the seat's pin is held, so that what a run reads stays placed. What is known then is `IsAttempt`:
 //! the change was judged at the state where the head was looked at, and what is drafted with the runs that are left
 //! leads to the state after it. That the caller runs the mutators which the group's meanings speak of is the one
@@ -27,17 +28,20 @@
 #![tactic(auto)]
 
 mod beginning;
+mod changing;
 mod ending;
 mod group;
 mod moving;
 mod places;
 mod proposing;
 mod pushing;
+mod requests;
 mod runs;
 mod steps;
 mod trying;
 mod views;
 
+pub use changing::{ask_from, make_change, ran_from};
 pub use group::SharedGroup;
 pub use moving::move_head;
 pub use places::At;
@@ -45,5 +49,5 @@ pub use proposing::Proposal;
 pub use pushing::body_at;
 pub use runs::{AskedRun, BoxedRun, del, get, put, scan};
 pub use steps::{Arrival, find_last, pin_and_load, pin_and_load_both, unpin};
-pub use trying::{Attempt, Progress, ask_from, make_change, ran_from};
+pub use trying::{Attempt, Progress};
 pub use views::{Rooted, closed_at, cookie_at, root_at};

@@ -6,37 +6,32 @@
 //!
 //! What a call has done since it began is said of any seat `before` from which its tries were counted (`IsSince`): so
 //! what was known when the call began need not be kept while the caller runs the mutators.
-ghost use Rattle.std.specs.Prelude.{ℕ, ◌≡◌, ◌<◌, ◌≤◌, [], max, Some, IfOk, IfErr, IfSome};
+ghost use Rattle.std.specs.Prelude.{ℕ, ◌≡◌, ◌<◌, [], Some, IfOk, IfErr};
 ghost use Rattle.group_history.specs.Record.{after};
 ghost use Rattle.head_word.specs.Books.{drawn, next_stamp, record_of};
 ghost use Rattle.map_chunks.specs.Drafts.{IsLate};
-ghost use Rattle.chunk_slots.specs.Seats.{IsIdle};
 ghost use Rattle.commit_graph.specs.Seats.{IsReading, IsSameSeat, IsSeatOf, Seated};
-ghost use Rattle.answered.specs.Answered.{IsLinearized};
 ghost use Rattle.answered.specs.Trying.{IsUnproposed};
 ghost use Rattle.group_history.specs.declared.refusals.Refusal.TheVariants as refusal;
-ghost use Rattle.group_steps.specs.Causes.{HasCause, HasCauseAt};
-ghost use Rattle.group_steps.specs.Changing.{EndsAt, EndsTry, FreesTry, is_made};
-ghost use Rattle.group_steps.specs.Leaving.{Frees, spared};
-ghost use Rattle.group_steps.specs.Missing.{IsStop, map_ok};
-ghost use Rattle.group_steps.specs.Proposing.{HasLast, IsUnmade, MayAsk, MayPropose, StaysFound, asked_reply};
-ghost use Rattle.group_steps.specs.Proposing.{change_asked};
+ghost use Rattle.group_steps.specs.Causes.{HasCauseAt};
+ghost use Rattle.group_steps.specs.Changing.{EndsAt, EndsTry, FreesTry};
+ghost use Rattle.group_steps.specs.Missing.{IsStop};
+ghost use Rattle.group_steps.specs.Proposing.{IsUnmade, MayAsk, MayPropose, StaysFound, asked_reply, change_asked};
 ghost use Rattle.group_steps.specs.Runs.{IsAskedRun, IsRunOf, MayStep};
-ghost use Rattle.group_steps.specs.Tries.{BeginsFirst, Follows, GoesBehind, IsPassed, NeedsNone, StartsAnew};
-ghost use Rattle.group_steps.specs.Tries.{StartsIfAny, IsArrivedSince, IsAttempt, IsGoing, IsProgress, IsSince, IsTurn};
-ghost use Rattle.group_steps.specs.Tries.{StandsOn, TellsGoing, TellsProgress, TellsTurn, turn_of};
+ghost use Rattle.group_steps.specs.Tries.{BeginsFirst, GoesBehind, IsPassed, NeedsNone, StartsIfAny, IsArrivedSince};
+ghost use Rattle.group_steps.specs.Tries.{IsGoing, IsSince, IsTurn, StandsOn, TellsGoing, TellsTurn, turn_of};
 
-use crate::beginning::begin;
 use crate::ending::end_run;
 use crate::group::SharedGroup;
 use crate::moving::move_head;
 use crate::places::At;
 use crate::proposing::{Proposal, Request};
+use crate::requests::begin;
 use crate::runs::{BoxedRun, Step};
 use crate::steps::{Arrival, pin_and_load_both, unpin};
 use chunk_slots::Store;
 use commit_graph::{LastId, Seat};
-use group_history::{Change, Means, Mutators, Ran, Ref, Refusal};
+use group_history::{Change, Means, Ran, Ref, Refusal};
 use replays::Runs;
 
 /// How a try of a change ended.
@@ -281,7 +276,7 @@ fn begin_there<M: Runs, S: Store<M>>(
 }
 
 // Goes on with a try where the run that it asked for ended so.
-fn ran_there<M: Runs, S: Store<M>>(
+pub(crate) fn ran_there<M: Runs, S: Store<M>>(
     group: &SharedGroup<M, S>,
     seat: &mut Seat<M, S>,
     arrival: &Arrival<M>,
@@ -312,7 +307,7 @@ fn ran_there<M: Runs, S: Store<M>>(
 }
 
 // Begins a try after so many that were lost: it asks for a run, or ends the call, or is lost itself.
-fn begin_try<M: Runs, S: Store<M>>(
+pub(crate) fn begin_try<M: Runs, S: Store<M>>(
     group: &SharedGroup<M, S>,
     seat: &mut Seat<M, S>,
     change: &Change,
@@ -341,104 +336,5 @@ fn begin_try<M: Runs, S: Store<M>>(
         Turn::Run(run) => Some(Progress::Run(Attempt { arrival, run, lost })),
         Turn::Ended(made) => Some(Progress::Ended(made)),
         Turn::Lost => None,
-    }
-}
-
-/// Asks for the first run of a change, which lost so many tries to others before; or ends it, where it needs none. It
-/// is tried anew where others moved the head first, `tries` times in all and once at least.
-pub fn ask_from<M: Runs, S: Store<M>>(
-    group: &SharedGroup<M, S>,
-    seat: &mut Seat<M, S>,
-    change: &Change,
-    found: &mut LastId,
-    lost: u32,
-    tries: u32,
-) -> Progress<M>
-    requires home { IsSeatOf group.now.shared seat.old }
-    requires none { S.reused → seat.old.view.taken ≡ [] }
-    requires asks { MayAsk (drawn seat.old.mark.log) found.old change.now }
-    requires few { lost ≤ max 1 tries }
-    requires idle { 0 < lost → S.reused → IsIdle seat.old.view }
-    ensures seat { IsSameSeat seat.old seat.new }
-    ensures stands { IsProgress M.has M.means S.reused group.now.shared seat.new tries found.old.id change.now
-        result }
-    ensures first { StartsAnew M.has lost change.now result }
-    ensures kept { StaysFound (drawn seat.new.mark.log) found.old found.new change.now }
-    ensures told { (before : Seated) → IsSince S.reused before lost change.now seat.old
-        → TellsProgress M.means S.reused tries before seat.new found.old.id change.now result }
-{
-    for tried in lost..tries.max(1) {
-        match begin_try::<M, S>(group, seat, change, found, tried, tries) {
-            Some(progress) => {
-                return progress;
-            }
-            None => {}
-        }
-    }
-    Progress::Ended(Err(Refusal::Moved))
-}
-
-/// Goes on with the change where the run that it asked for ended so: the next run is asked for, or the call ends. Where
-/// others moved the head first, all runs are asked for anew.
-pub fn ran_from<M: Runs, S: Store<M>>(
-    group: &SharedGroup<M, S>,
-    seat: &mut Seat<M, S>,
-    attempt: Attempt<M>,
-    change: &Change,
-    found: &mut LastId,
-    ran: Ran,
-    tries: u32,
-) -> Progress<M>
-    requires attempt { IsAttempt M.means S.reused group.now.shared seat.old found.old.id
-        change.now attempt }
-    requires few { attempt.lost < max 1 tries }
-    requires asks { MayAsk (drawn seat.old.mark.log) found.old change.now }
-    requires ran { IsRunOf M.means (drawn seat.old.mark.log) attempt.run ran }
-    ensures seat { IsSameSeat seat.old seat.new }
-    ensures stands { IsProgress M.has M.means S.reused group.now.shared seat.new tries found.old.id
-        change.now result }
-    ensures next { Follows M.has M.means seat.old seat.new attempt ran change.now result }
-    ensures kept { StaysFound (drawn seat.new.mark.log) found.old found.new change.now }
-    ensures told { (before : Seated) → IsArrivedSince M.means S.reused before attempt.lost change.now
-        attempt.arrival.seen.log seat.old
-        → TellsProgress M.means S.reused tries before seat.new found.old.id change.now result }
-{
-    let Attempt { arrival, run, lost } = attempt;
-    let before = *found;
-    let request = Request { change, before };
-    match ran_there::<M, S>(group, seat, &arrival, &request, run, ran, tries) {
-        Turn::Run(run) => Progress::Run(Attempt { arrival, run, lost }),
-        Turn::Ended(made) => Progress::Ended(made),
-        Turn::Lost => ask_from::<M, S>(group, seat, change, found, lost + 1, tries),
-    }
-}
-
-/// Makes a change that a client asks for, of a group that has all mutators, and answers the commit where it stands:
-/// none where there is nothing to change. It is tried anew where others moved the head first, `tries` times and once at
-/// least. Where its client's last id was found by the way stays known, also where the change is refused.
-pub fn make_change<M: Mutators, S: Store<M>>(
-    group: &SharedGroup<M, S>,
-    seat: &mut Seat<M, S>,
-    change: &Change,
-    found: &mut LastId,
-    tries: u32,
-) -> Result<Option<Ref>, Refusal>
-    requires home { IsSeatOf group.now.shared seat.old }
-    requires none { S.reused → seat.old.view.taken ≡ [] }
-    requires asks { MayAsk (drawn seat.old.mark.log) found.old change.now }
-    ensures seat { IsSameSeat seat.old seat.new }
-    ensures idle { S.reused → IsIdle seat.new.view }
-    ensures answer { IsLinearized M.means tries seat.old.mark seat.new.mark (map_ok is_made result)
-        (change_asked change.now) (λ s. asked_reply M.means s found.old.id change.now) }
-    ensures found { IfOk result (λ made. IfSome made (λ at. HasLast (drawn seat.new.mark.log) at change.now)) }
-    ensures cause { IfErr result (HasCause M.means S.reused found.old.id (Some change.now)
-        seat.old seat.new) }
-    ensures frees { S.reused → Frees (Some change.now) (spared result) seat.old seat.new
-        (change_asked change.now (map_ok is_made result)) }
-    ensures kept { StaysFound (drawn seat.new.mark.log) found.old found.new change.now }
-{
-    match ask_from::<M, S>(group, seat, change, found, 0, tries) {
-        Progress::Ended(made) => made,
-        Progress::Run(_) => unreachable!(),
     }
 }

@@ -1,8 +1,8 @@
 //! The root of what a draft owns of a map.
 //!
 //! A first put makes a trail, where no chunk is split; other changes need an own chunk, and make one of a trail first.
-ghost use Rattle.std.specs.Prelude.{◌≡◌, ◌==◌, ◌⊎◌, ◌+◌, ◌-◌, ◌^◌, ◌<◌, ◌≤◌, [], ◌∷◌, min, length, Ok, Err, Some, None};
-ghost use Rattle.std.specs.Prelude.{true, IsSome, IfOk, IfErr, OnOk, OnErr};
+ghost use Rattle.std.specs.Prelude.{◌≡◌, ◌==◌, ◌⊎◌, ◌+◌, ◌-◌, ◌^◌, ◌<◌, ◌≤◌, [], ◌∷◌, min, length, Ok, Err, Some};
+ghost use Rattle.std.specs.Prelude.{None, true, IsSome, IfOk, IfErr, OnOk, OnErr};
 ghost use Rattle.std.specs.Ordering.{nat_cmp};
 ghost use Rattle.std.specs.Cmp.Lexicographic.{slice_cmp};
 ghost use Rattle.std.specs.FinMap as finite;
@@ -16,20 +16,21 @@ ghost use Rattle.group_history.specs.declared.mutators.Update.{Update as Updates
 ghost use Rattle.group_history.specs.declared.refusals.Refusal.TheVariants as refusal;
 ghost use Rattle.map_chunks.specs.Drafts.{AddsNeeded, AreBelow, IsLate};
 ghost use Rattle.map_chunks.specs.Places.{with_nodes, Grows, AreAll, AreKept, AddsNamed, places_of};
-ghost use Rattle.map_chunks.specs.Scanning.{taken, Gave, IsLow};
-ghost use Rattle.map_chunks.specs.Seeking.{chunk_depth, is_in};
+ghost use Rattle.map_chunks.specs.Seeking.{chunk_depth};
 ghost use Rattle.map_chunks.specs.Shown.{chunk_rows, fresh, own, leaf_keys, shown, IsTree, rows_or};
 ghost use Rattle.map_nodes.specs.Changes.{CanMake, Makes};
 ghost use Rattle.map_nodes.specs.Inside.Laying.{IsReached};
 ghost use Rattle.map_nodes.specs.Updating.{IsPutOr, IsUpdated};
 ghost use Rattle.map_chunks.specs.Wide.{IsWideAt, IsWideChunk};
 ghost use Rattle.map_nodes.specs.Removing.{root_left, without, root_rows, IsRootRemoved, IsWideRoot};
-ghost use Rattle.map_nodes.specs.Levels.{placed_levels, seen_levels, CopiedLater, NamedLater, PutLater};
+ghost use Rattle.map_nodes.specs.Levels.{placed_levels, seen_levels, CopiedLater, NamedLater};
+
+mod reading;
 
 use crate::changes::Change;
 use crate::nodes::{Down, Laying, OwnNode, Reached, Trail, change_at, topped};
-use group_history::{Json, Ran, Ref, Refusal, STAMPS, Scan, SearchKey, Stop, Update};
-use map_chunks::{Chunks, Draft, TakesRows};
+use group_history::{Json, Ran, Ref, Refusal, STAMPS, SearchKey, Stop, Update};
+use map_chunks::{Chunks, Draft};
 use std::alloc::{AllocError, Global};
 use std::marker::Model;
 
@@ -206,59 +207,6 @@ impl OwnRoot {
         match &self.form {
             Form::Node(node) => node.is_empty(),
             Form::Trail(trail) => trail.is_empty(),
-        }
-    }
-
-    /// The value at a key, if it is there. Stops for want of memory, or as the store does.
-    pub fn get<C: Chunks>(&self, chunks: &mut C, key: &str) -> Result<Option<Json>, Stop>
-        requires places { AreAll (C.places chunks.old) (places_of self.now.pieces) }
-        requires tree { IsTree (shown (C.contents chunks.old) self.now.pieces) }
-        ensures grown { Grows C.contents C.places chunks.old chunks.new }
-        ensures value { IfOk result (λ v. v ≡ finite.find (slice_cmp nat_cmp) key.now
-            (rows_or (shown (C.contents chunks.old) self.now.pieces))) }
-        ensures stopped { IfErr result (λ s. (s ≡ NoMemory) ⊎ C.stops s) }
-    {
-        match &self.form {
-            Form::Node(node) => node.get(chunks, key),
-            Form::Trail(trail) => trail.get(chunks, key),
-        }
-    }
-
-    /// Whether the key is there. Stops as the store does alone.
-    pub fn has<C: Chunks>(&self, chunks: &mut C, key: &str) -> Result<bool, Stop>
-        requires places { AreAll (C.places chunks.old) (places_of self.now.pieces) }
-        requires tree { IsTree (shown (C.contents chunks.old) self.now.pieces) }
-        ensures grown { Grows C.contents C.places chunks.old chunks.new }
-        ensures has { IfOk result (λ b. b ≡ is_in (rows_or (shown (C.contents chunks.old) self.now.pieces)) key.now) }
-        ensures stopped { IfErr result C.stops }
-    {
-        match &self.form {
-            Form::Node(node) => node.has(chunks, key),
-            Form::Trail(trail) => trail.has(chunks, key),
-        }
-    }
-
-    /// Takes the scan's rows of the chunk, and answers the room that is left. Stops for want of memory, or as
-    /// the store does; the sink has then a beginning of these rows.
-    pub fn scan<C: Chunks, S: TakesRows>(
-        &self,
-        chunks: &mut C,
-        scan: &Scan,
-        low: &str,
-        room: Option<u64>,
-        sink: &mut S,
-    ) -> Result<Option<u64>, Stop>
-        requires places { AreAll (C.places chunks.old) (places_of self.now.pieces) }
-        requires tree { IsTree (shown (C.contents chunks.old) self.now.pieces) }
-        requires low { IsLow scan.now low.now }
-        ensures grown { Grows C.contents C.places chunks.old chunks.new }
-        ensures rows { Gave S.has sink.old sink.new room result
-            (taken scan.now room (rows_or (shown (C.contents chunks.old) self.now.pieces))) }
-        ensures stopped { IfErr result (λ s. (s ≡ NoMemory) ⊎ C.stops s) }
-    {
-        match &self.form {
-            Form::Node(node) => node.scan(chunks, scan, low, room, sink),
-            Form::Trail(trail) => trail.scan(chunks, scan, low, room, sink),
         }
     }
 

@@ -45,6 +45,7 @@ mod counts;
 mod laws;
 mod passes;
 mod plays;
+mod quick;
 mod slot;
 mod steps;
 mod view;

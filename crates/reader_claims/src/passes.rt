@@ -1,6 +1,6 @@
 // What is made of the single steps: a reading of the epoch and the pins, and the search for a slot.
 ghost use Rattle.std.specs.Prelude.{◌≡◌, ◌≢◌, ℕ, ◌+◌, ◌-◌, ◌^◌, ◌<◌, ◌≤◌, true, false, min, MatchOption, IfNone};
-ghost use Rattle.std.specs.Prelude.{IfSome, ◌∷◌};
+ghost use Rattle.std.specs.Prelude.{IfSome};
 ghost use Rattle.reader_claims.specs.Words.{slot_word, pin_word};
 ghost use Rattle.reader_claims.specs.declared.words.Pin.TheVariants.{Stored};
 ghost use Rattle.reader_claims.specs.declared.words.SlotState.TheVariants.{Free, Retired};
@@ -13,12 +13,6 @@ ghost use Rattle.reader_claims.specs.Inside.Scans.{Later, HasFound};
 use crate::slot::Kind;
 use crate::steps::{Reader, Words};
 use crate::words::{FREE, Pin, SlotState};
-
-// How many slots are looked at beside where the last one was found, and at how many spread places,
-// before all are.
-const NEAR: u32 = 8;
-
-const PROBES: u32 = 16;
 
 // Where there are so many seats, a pass gives slots ahead, so that the next takes need no reading of the pins.
 const MANY_SEATS: u32 = 16;
@@ -264,137 +258,6 @@ impl Words {
             return Some(slot);
         }
         self.scan(reader, ordinary, self.end_of(kind), bound)
-    }
-
-    // Gives a slot that was found as retired at r, and takes it, if the pins that were read leave it open.
-    fn quick_give(&self, reader: &mut Reader, slot: u32, r: u64) -> Look
-        requires slot { (reader_id reader.old ≡ words_id self.now) × (slot < self.now.sizes.slots) }
-        requires small { r < 2 ^ 63 - 1 }
-        ensures table { reader_id reader.new ≡ reader_id reader.old }
-        ensures moves { Moves (view reader.old) (view reader.new) }
-        ensures later { Later (view reader.old) (view reader.new) }
-        ensures taken { IfTook result (slot + 1) (view reader.old) (view reader.new) }
-    {
-        if r == 0 || reader.bound < r {
-            return Look::Retired(slot);
-        }
-        if self.give(reader, slot, r) != SlotState::Retired(r).word() {
-            return Look::Nothing;
-        }
-        if self.take(reader, slot) == FREE {
-            Look::Took(slot)
-        } else {
-            Look::Nothing
-        }
-    }
-
-    // Takes the slot if a plain load finds it free, or retired and open.
-    fn quick_at(&self, reader: &mut Reader, slot: u32) -> Look
-        requires { (reader_id reader.old ≡ words_id self.now) × (slot < self.now.sizes.slots) }
-        ensures table { reader_id reader.new ≡ reader_id reader.old }
-        ensures moves { Moves (view reader.old) (view reader.new) }
-        ensures later { Later (view reader.old) (view reader.new) }
-        ensures taken { IfTook result (slot + 1) (view reader.old) (view reader.new) }
-    {
-        match self.look(slot) {
-            SlotState::Free => {}
-            SlotState::Retired(r) => return self.quick_give(reader, slot, r),
-            SlotState::Taken(_) | SlotState::Live => return Look::Nothing,
-        }
-        if self.take(reader, slot) == FREE {
-            Look::Took(slot)
-        } else {
-            Look::Nothing
-        }
-    }
-
-    // Takes the first slot that a plain load finds free or open, and stops at the first that is retired and not known
-    // as open.
-    #[inline(always)]
-    fn quick(&self, reader: &mut Reader, from: u32, end: u32) -> Look
-        requires { (reader_id reader.old ≡ words_id self.now) × (end ≤ self.now.sizes.slots) }
-        ensures table { reader_id reader.new ≡ reader_id reader.old }
-        ensures moves { Moves (view reader.old) (view reader.new) }
-        ensures later { Later (view reader.old) (view reader.new) }
-        ensures taken { IfTook result end (view reader.old) (view reader.new) }
-    {
-        for slot in from..end {
-            let look = self.quick_at(reader, slot);
-            let Look::Nothing = look else {
-                return look;
-            };
-        }
-        Look::Nothing
-    }
-
-    // The same at places that are spread over the slots.
-    fn probe(&self, reader: &mut Reader, end: u32) -> Look
-        requires { (reader_id reader.old ≡ words_id self.now) × (end ≤ self.now.sizes.slots) }
-        ensures table { reader_id reader.new ≡ reader_id reader.old }
-        ensures moves { Moves (view reader.old) (view reader.new) }
-        ensures later { Later (view reader.old) (view reader.new) }
-        ensures taken { IfTook result end (view reader.old) (view reader.new) }
-    {
-        let step = end / PROBES + 1;
-        for place in 0..PROBES {
-            let slot = place * step;
-            if slot >= end {
-                return Look::Nothing;
-            }
-            let look = self.quick_at(reader, slot);
-            let Look::Nothing = look else {
-                return look;
-            };
-        }
-        Look::Nothing
-    }
-
-    // The same at a few slots from `start` on, and then at spread places.
-    #[inline(always)]
-    fn quick_few(&self, reader: &mut Reader, start: u32, end: u32) -> Look
-        requires { (reader_id reader.old ≡ words_id self.now) × (start ≤ end) × (end ≤ self.now.sizes.slots) }
-        ensures table { reader_id reader.new ≡ reader_id reader.old }
-        ensures moves { Moves (view reader.old) (view reader.new) }
-        ensures later { Later (view reader.old) (view reader.new) }
-        ensures taken { IfTook result end (view reader.old) (view reader.new) }
-    {
-        let look = self.quick(reader, start, start.saturating_add(NEAR).min(end));
-        let Look::Nothing = look else {
-            return look;
-        };
-        self.probe(reader, end)
-    }
-
-    // The same from `start` to the end, and then from 0.
-    #[inline(never)]
-    fn quick_whole(&self, reader: &mut Reader, start: u32, end: u32) -> Look
-        requires { (reader_id reader.old ≡ words_id self.now) × (start ≤ end) × (end ≤ self.now.sizes.slots) }
-        ensures table { reader_id reader.new ≡ reader_id reader.old }
-        ensures moves { Moves (view reader.old) (view reader.new) }
-        ensures later { Later (view reader.old) (view reader.new) }
-        ensures taken { IfTook result end (view reader.old) (view reader.new) }
-    {
-        let look = self.quick(reader, start, end);
-        let Look::Nothing = look else {
-            return look;
-        };
-        self.quick(reader, 0, start)
-    }
-
-    // The same at a few places first, and then at all.
-    #[inline(always)]
-    fn quick_round(&self, reader: &mut Reader, start: u32, end: u32) -> Look
-        requires { (reader_id reader.old ≡ words_id self.now) × (start ≤ end) × (end ≤ self.now.sizes.slots) }
-        ensures table { reader_id reader.new ≡ reader_id reader.old }
-        ensures moves { Moves (view reader.old) (view reader.new) }
-        ensures later { Later (view reader.old) (view reader.new) }
-        ensures taken { IfTook result end (view reader.old) (view reader.new) }
-    {
-        let look = self.quick_few(reader, start, end);
-        let Look::Nothing = look else {
-            return look;
-        };
-        self.quick_whole(reader, start, end)
     }
 
     // Takes a slot: a free one near `start`, or what a pass finds. Where the last slot was a reserved

@@ -31,6 +31,7 @@
 
 mod answering;
 mod asking;
+mod asks;
 mod calls;
 mod changes;
 mod client;
@@ -41,6 +42,7 @@ mod queries;
 mod readers;
 mod reading;
 mod seats;
+mod sitting;
 mod tickets;
 mod watching;
 

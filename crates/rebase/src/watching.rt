@@ -7,11 +7,12 @@
 //! chunks (`AreRead`), in what was seen of the book when they were read; of that and what a client has seen one begins
 //! the other.
 ghost use Rattle.std.specs.Option.{option_copied};
-ghost use Rattle.std.specs.Prelude.{◌≡◌, ◌⊎◌, Some, None, Ok, true, IfOk, IfErr, IfNone, IfSome};
+ghost use Rattle.std.specs.Prelude.{◌≡◌, ◌⊎◌, T, Some, None, Ok, true, IfOk, IfErr, IfNone, IfSome};
 ghost use Rattle.std.specs.Cmp as laws;
 ghost use mathlib.Core.List.{IsPrefix};
 ghost use Rattle.group_history.specs.Queries.{view_rows};
 ghost use Rattle.group_history.specs.Record.{after};
+ghost use Rattle.group_history.specs.Rows.{keys_of, rises};
 ghost use Rattle.head_word.specs.Books.{record_of};
 ghost use Rattle.answered.specs.Answered.{IsLinearized, no_change};
 ghost use Rattle.group_steps.specs.Missing.{IsMissedOrDry};
@@ -166,9 +167,10 @@ impl<M: Means> Watch<M> {
         }
     }
 
-    /// The rows that it answered last; none before the first poll.
+    /// The rows that it answered last, in the strict order of their keys; none before the first poll.
     pub fn rows(&self) -> Option<&Rows>
-        ensures { option_copied result ≡ self.now.last }
+        ensures told { option_copied result ≡ self.now.last }
+        ensures rising { IfSome result (λ rows. T (rises (keys_of rows.now))) }
     {
         match &self.last {
             Some(told) => Some(&told.rows),

@@ -1,5 +1,5 @@
 use Rattle.head_word.specs.Books.{drawn}
-use Rattle.group_steps.proofs.beginning.begin_pull.Given as goal
+use Rattle.group_steps.proofs.requests.begin_pull.Given as goal
 
 -- the nodes that the seat knows
 abbrev pub ghosts-base_at : goal.ghosts-base_at

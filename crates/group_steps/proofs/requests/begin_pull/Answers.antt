@@ -3,7 +3,7 @@ use Rattle.group_history.specs.Spelling.{Contents, version_of}
 use Rattle.commit_graph.specs.Chains.{IsBaseOf}
 use Rattle.replays.specs.Chaining.{HasTip}
 use Rattle.group_steps.specs.Places.{state_at}
-use Rattle.group_steps.proofs.beginning.begin_pull.Goals as goal
+use Rattle.group_steps.proofs.requests.begin_pull.Goals as goal
 
 pub base_at-requires-clause-tip : goal.base_at-requires-clause-tip
 base_at-requires-clause-tip g c =

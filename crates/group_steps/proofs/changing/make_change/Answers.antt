@@ -1,5 +1,5 @@
 use Rattle.group_steps.proofs.Since.{since_self}
-use Rattle.group_steps.proofs.trying.make_change.Goals as goal
+use Rattle.group_steps.proofs.changing.make_change.Goals as goal
 
 pub returns-clause-answer : goal.returns-clause-answer
 returns-clause-answer g c = (c.in-Ended.ensures.told c.args.seat.now

@@ -2,7 +2,7 @@ use Rattle.head_word.specs.Books.{drawn}
 use Rattle.commit_graph.proofs.Seating.{seat-trans}
 use Rattle.group_steps.proofs.Answering.{found_asks, found_more, may_ask_grown}
 use Rattle.group_steps.proofs.Since.{starts_earlier}
-use Rattle.group_steps.proofs.trying.ask_from.Goals as goal
+use Rattle.group_steps.proofs.changing.ask_from.Goals as goal
 
 pub begin_try-requires-clause-asks : goal.begin_try-requires-clause-asks
 begin_try-requires-clause-asks g c κs within =

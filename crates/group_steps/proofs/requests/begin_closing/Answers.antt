@@ -3,7 +3,7 @@ use Rattle.group_history.specs.declared.changes.Change.TheVariants.{Closed}
 use Rattle.head_word.specs.Books.{drawn}
 use Rattle.group_steps.specs.Places.{state_at}
 use Rattle.group_steps.specs.Proposing.{MayPropose}
-use Rattle.group_steps.proofs.beginning.begin_closing.Goals as goal
+use Rattle.group_steps.proofs.requests.begin_closing.Goals as goal
 
 pub returns-in-Ok-Some-clause-step : goal.returns-in-Ok-Some-clause-step
 returns-in-Ok-Some-clause-step g c last =

@@ -4,7 +4,7 @@ use Rattle.chunk_slots.specs.Seats.{IsIdle}
 use Rattle.commit_graph.specs.Seats.{IsSameSeat, Seated}
 use Rattle.group_steps.specs.Proposing.{StaysFound}
 use Rattle.group_steps.specs.Tries.{IsSince}
-use Rattle.group_steps.proofs.trying.ask_from.Given as goal
+use Rattle.group_steps.proofs.changing.ask_from.Given as goal
 
 -- each try was lost to others
 abbrev pub invariant-loop-tried : goal.invariant-loop-tried

@@ -2,7 +2,7 @@ use Rattle.std.proofs.Common.{inl, refl}
 use Rattle.head_word.specs.Books.{drawn}
 use Rattle.group_steps.proofs.Answering.{found_self, may_ask_grown}
 use Rattle.group_steps.proofs.Since.{follows_anew}
-use Rattle.group_steps.proofs.trying.ran_from.Goals as goal
+use Rattle.group_steps.proofs.changing.ran_from.Goals as goal
 
 pub ask_from-requires-clause-asks : goal.ask_from-requires-clause-asks
 ask_from-requires-clause-asks g c κs within = may_ask_grown c.args.seat.now.mark.log c.ran_there.new.seat.mark.log

@@ -7,7 +7,7 @@ use Rattle.group_steps.specs.Missing.{IsStop}
 use Rattle.group_steps.specs.Places.{state_at}
 use Rattle.group_steps.specs.Proposing.{asked_reply, change_asked}
 use Rattle.group_steps.specs.Runs.{MayStep}
-use Rattle.group_steps.proofs.beginning.begin_open.Goals as goal
+use Rattle.group_steps.proofs.requests.begin_open.Goals as goal
 
 pub returns-in-Pulled-clause-step : goal.returns-in-Pulled-clause-step
 returns-in-Pulled-clause-step g c =
