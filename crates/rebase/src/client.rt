@@ -156,6 +156,10 @@ impl<M: Means, S: Slots<M>> Client<M, S> {
         ensures answer { IsLinearized M.means tries self.old.seat.mark self.new.seat.mark (map_ok
             (λ body. body.items) result)
             no_change (λ s. Ok (push_text self.old.group.identity (drop skip s.pending))) }
+        ensures point { IfOk result (λ _. IsPoint M.means self.old.seat.mark self.new.seat.mark None
+            self.new.seat.mark.log) }
+        ensures now { IfOk result (λ body. body.items ≡ push_text self.old.group.identity
+            (drop skip (after (record_of self.new.seat.mark.log)).pending)) }
         ensures err { IfErr result (IsMissedOrDry S.reused) }
         ensures stays { Stays S.reused self.old self.new }
     {

@@ -27,6 +27,7 @@ impl<M: Means, S: Slots<M>> Client<M, S> {
         ensures same_reference { IfOk result (λ tx. (lent tx).ghost_name ≡ self.entry.ghost_name) }
         ensures point { IfOk result (λ tx. IsPoint M.means self.old.seat.mark (lent tx).now.seat.mark None
             (seen_by tx).log) }
+        ensures seen { IfOk result (λ tx. (seen_by tx).log ≡ (lent tx).now.seat.mark.log) }
         ensures reads { IfOk result (λ tx. Reads S.reused tries self.old (lent tx).now) }
         ensures missed { IfErr result (IsStoreRefusal S.reused) }
     {

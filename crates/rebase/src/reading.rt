@@ -8,6 +8,7 @@ ghost use Rattle.group_history.specs.Refs.{stamp_of};
 ghost use Rattle.group_history.specs.Spelling.{Spells, map_at, version_of};
 ghost use Rattle.group_history.specs.State.{view_of};
 ghost use Rattle.head_word.specs.Books.{drawn, last_move, record_of};
+ghost use Rattle.head_word.specs.Laws.{moment};
 ghost use Rattle.head_word.specs.Marks.{known};
 ghost use Rattle.map_chunks.specs.Sinks.{HasMore, HasBegun};
 ghost use Rattle.commit_graph.specs.Seats.{IsReading};
@@ -157,9 +158,10 @@ impl<'a, M: Means, S: Slots<M>> ReadTx<'a, M, S> {
         client.group.shared.alloc
     }
 
-    // Its commit. The client's pin is held as long as there is the reader; that is looked at, since no type can keep
-    // what holds behind a `&mut` until the reader is let go, and not a moment longer.
-    pub(crate) fn commit(&self) -> Result<CommitTx<StoreNodes<'_, M, S>>, Refusal>
+    /// Its commit, to be queried. Takes no memory. The client's pin is held as long as there is the reader; that is looked
+    /// at, since no type can keep what holds behind a `&mut` until the reader is let go, and not a moment longer. It is
+    /// never found missing; the refusal would be `Gone`.
+    pub fn commit(&self) -> Result<CommitTx<StoreNodes<'_, M, S>>, Refusal>
         ensures version { IfOk result (λ tx. tx.version ≡ version_of M.means (read_by self.now)) }
         ensures contents { IfOk result (λ tx. tx.contents ≡ drawn (seen_by self.now).log) }
         ensures gone { IfErr result (λ e. e ≡ Gone) }
@@ -271,6 +273,14 @@ impl<'a, M: Means, S: Slots<M>> ReadTx<'a, M, S> {
     {
         let tx = self.commit()?;
         Ok(tx.pulled()?)
+    }
+
+    /// The moment at which it reads, as `Client::moment` counts them. Takes no memory.
+    pub fn moment(&self) -> u64
+        ensures { result ≡ moment (seen_by self.now).log }
+    {
+        let head = self.at.head();
+        head.stamp()
     }
 
     /// Ends the reading, and takes the pin away, as dropping the reader does. Takes no memory.
