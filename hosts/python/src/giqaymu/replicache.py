@@ -211,7 +211,7 @@ class Replicache:
     - `store` (Replicache: `name`, in IndexedDB): a folder where the group outlives the process. A folder is for one
       user and one server. None: the group lives in memory.
     - `durability` (not Replicache's): `fsync` or `write`: what a mutation has reached when it returns (`store.py`).
-    - `clients`: how many clients may be open at once. `slots`: with how many the group begins; it grows.
+    - `clients`: how many clients may be open at once, 1 to 251. `slots`: with how many the group begins; it grows.
 
     Callbacks, on a thread of their own:
 
