@@ -7,7 +7,8 @@ use Rattle.serde_json.specs.Data.{Data, null, boolean, number, string, array, ob
 use Rattle.serde_json.specs.Data.{member, depth, items_depth, members_depth}
 use Rattle.serde_json.specs.Find.{get, get_member, as_array}
 use Rattle.pull_patch.specs.Fields.{text_at, array_at}
-use Rattle.pull_patch.specs.Operations.{Edit, put, del, edit_of, put_of, del_of, edit_named}
+use Rattle.pull_patch.specs.Operations.{Edit, put, del, clear, edit_of, put_of, del_of, edit_named}
+use Rattle.pull_patch.specs.Writes.{of_one_key, write_edit}
 use Rattle.pull_patch.specs.Inside.Parts.{edit_depth}
 
 abbrev Below : ℕ → Option Data → Type 0
@@ -64,10 +65,23 @@ then_within : (o : Option (List ℕ)) (f : List ℕ → Option Edit) (n : ℕ) �
 then_within None f n h = tt
 then_within (Some name) f n h = h name
 
-pub edit_within : (d : Data) (e : Edit) (n : ℕ) → depth d ≤ n + 1 → edit_of d ≡ Some e → edit_depth e ≤ n
+edit_of_within : (d : Data) (n : ℕ) → depth d ≤ n + 1 → Within n (edit_of d)
 unfolding edit_of
-edit_within d e n h is = subst (Within n) is
-    (then_within (text_at (codes "op") d) (λ name. edit_named name d) n (λ name. named_within name d n h))
+edit_of_within d n h = then_within (text_at (codes "op") d) (λ name. edit_named name d) n
+    (λ name. named_within name d n h)
+
+pub edit_within : (d : Data) (e : Edit) (n : ℕ) → depth d ≤ n + 1 → edit_of d ≡ Some e → edit_depth e ≤ n
+edit_within d e n h is = subst (Within n) is (edit_of_within d n h)
+
+one_key_within : (o : Option Edit) (n : ℕ) → Within n o → Within n (option_and_then of_one_key o)
+one_key_within None n h = tt
+one_key_within (Some (put key d)) n h = h
+one_key_within (Some (del key)) n h = h
+one_key_within (Some clear) n h = tt
+
+pub write_within : (d : Data) (e : Edit) (n : ℕ) → depth d ≤ n + 1 → write_edit d ≡ Some e → edit_depth e ≤ n
+unfolding write_edit
+write_within d e n h is = subst (Within n) is (one_key_within (edit_of d) n (edit_of_within d n h))
 
 abbrev ItemsBelow : ℕ → Option Items → Type 0
 ItemsBelow n None = ⊤
@@ -84,6 +98,10 @@ as_array_below (object ms) n h = tt
 then_array_below : (o : Option Data) (n : ℕ) → Below (n + 1) o → ItemsBelow n (option_and_then as_array o)
 then_array_below None n h = tt
 then_array_below (Some d) n h = as_array_below d n h
+
+-- the items of an array
+pub as_array-below : (d : Data) (ds : Items) (n : ℕ) → depth d ≤ n + 1 → as_array d ≡ Some ds → items_depth ds ≤ n
+as_array-below d ds n h is = subst (ItemsBelow n) is (as_array_below d n h)
 
 -- the items of a field that is an array
 pub array_at-below : (name : List ℕ) (d : Data) (ds : Items) (n : ℕ) → depth d ≤ n + 1 + 1 → array_at name d ≡ Some ds

@@ -1,6 +1,7 @@
 mod Eaches
 mod Depths
 mod Lists
+mod WriteLists
 pub mod Refusals
 mod Joins
 mod Unknown

@@ -14,7 +14,7 @@ use Rattle.pull_patch.specs.Operations.{Edit, edit_of, edits_of, operation_of}
 use Rattle.pull_patch.specs.Changes.{Entry, entry, id_of, entry_of, entries_of, change_of}
 use Rattle.pull_patch.specs.Inside.Parts.{patch_part, changes_part}
 
-items_list-view : (vs : List Value) → items_list (items_view vs) ≡ map view vs
+pub items_list-view : (vs : List Value) → items_list (items_view vs) ≡ map view vs
 items_list-view [] = refl
 items_list-view (v ∷ vs) = ap (λ ds. view v ∷ ds) (items_list-view vs)
 

@@ -1,4 +1,4 @@
-//! Reading a pull's response. `docs/FORMATS.md` has the grammar in words.
+//! Reading a pull's response, and a run's writes. `docs/FORMATS.md` has the grammar of responses in words.
 //!
 //! A body that is plain is read from token to token, with no tree of the whole (`plain`): without an error, and with
 //! whole numbers alone in what counts. Any other one is read as a tree of JSON. There all that the response needs is
@@ -12,6 +12,8 @@
 //! needs a stack of 160 kB, and with 64 kB the program dies at 40 levels. `plain_response` refuses nothing but for want
 //! of memory. No clause says which bodies are plain, and no proof bounds a stack.
 //!
+//! A run's writes are a bare list of a patch's operations `put` and `del` (`writes`), read as a tree.
+//!
 //! What a response's patch makes of a map, and the order of cookies, are `group_history`'s.
 #![tactic(auto)]
 
@@ -21,7 +23,9 @@ mod laws;
 mod operations;
 mod plain;
 mod response;
+mod writes;
 
 pub use group_history::{apply_patch, cookie_cmp};
 pub use laws::{unknown_fields_law, whole_numbers_law, worked_bodies};
 pub use response::read_response;
+pub use writes::{Write, read_writes};

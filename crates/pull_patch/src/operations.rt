@@ -13,7 +13,7 @@ use serde_json::Value;
 use std::alloc::{AllocError, Global};
 
 // An operation of the right shape, in the tree.
-enum Edit<'a> {
+pub(crate) enum Edit<'a> {
     Put(&'a str, &'a Value),
     Del(&'a str),
     Clear,
@@ -40,7 +40,7 @@ fn del_of(value: &Value) -> Option<Edit<'_>>
 }
 
 #[tactic(auto, unfolding(crate::specs::Operations::edit_of))]
-fn edit_of(value: &Value) -> Option<Edit<'_>>
+pub(crate) fn edit_of(value: &Value) -> Option<Edit<'_>>
     ensures { option_map edit_view result ≡ operations.edit_of (view value.now) }
 {
     let Some(name) = text_at(value, "op") else {
@@ -60,7 +60,7 @@ fn edit_of(value: &Value) -> Option<Edit<'_>>
 
 // The operation, or none where a number in what is put isn't whole.
 #[tactic(auto, unfolding(crate::specs::Operations::operation_of))]
-fn operation_of(alloc: Global, edit: Edit<'_>) -> Result<Option<Patch>, AllocError>
+pub(crate) fn operation_of(alloc: Global, edit: Edit<'_>) -> Result<Option<Patch>, AllocError>
     requires { edit_depth (edit_view edit) ≤ 124 }
     ensures { IfOk result (λ o. o ≡ operations.operation_of (edit_view edit.entry)) }
 {
