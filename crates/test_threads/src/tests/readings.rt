@@ -128,6 +128,23 @@ fn borrowed_pulled_n(
     Ok(number_of(value.as_ref()))
 }
 
+// What a borrowed reader's commit tells of n, and whether the reader's moment is the group's.
+fn committed_n(client: &mut Caller) -> Result<(Option<i64>, bool), Refusal> {
+    let tx = client.read(TRIES)?;
+    let moment = tx.moment();
+    let n = commit_n(&tx);
+    tx.close();
+    Ok((n?, moment == client.moment()))
+}
+
+fn commit_n(
+    tx: &ReadTx<'_, ScriptMutators, Arena<ScriptMutators>>,
+) -> Result<Option<i64>, Refusal> {
+    let mut commit = tx.commit()?;
+    let value = commit.get("n")?;
+    Ok(number_of(value.as_ref()))
+}
+
 // How many rows a watch keeps before its first poll, and behind it.
 fn rows_kept(
     client: &mut Caller,
@@ -155,6 +172,7 @@ fn what_the_server_sent_is_read_beside_what_is_pending(rt: HostRuntime) -> Resul
     pulls(&mut client, FIVE, TRIES)?;
     raises(&mut client, alloc, 1)?;
     assert!(rt; both_n(&mut client)? == (Some(6), Some(5)));
+    assert!(rt; committed_n(&mut client)? == (Some(6), true));
     assert!(rt; rows_kept(&mut client, alloc)? == (None, Some(1)));
     match client.begin_read(TRIES) {
         Ok(reader) => drop(reader.leave()),
