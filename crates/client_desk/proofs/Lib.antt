@@ -8,5 +8,6 @@ mod Numbers
 pub mod Remaining
 mod Staying
 mod Telling
+mod Querying
 mod Waits
 mod Watching

@@ -20,7 +20,6 @@ use Rattle.client_desk.specs.declared.sitting.Sitting.{Sitting}
 use Rattle.client_desk.specs.declared.sitting.Sitting.TheVariants as sits
 use Rattle.client_desk.specs.Answers.{Asks, AsksAs, At, ByClient, Lacks, Reads, ReadsBy, ReadsKept, Refreshes, Rule}
 use Rattle.client_desk.specs.Answers.{TellsMoment, TellsMomentAs, absent, read_by, tries}
-use Rattle.client_desk.specs.Inside.Reading.{MayRead}
 use Rattle.client_desk.specs.Places.{PlaceState, with_client}
 use Rattle.client_desk.specs.Sitting.{client_of, reading_of}
 use Rattle.client_desk.specs.Told.{Told, dry, id_told, tells, told, told_alone}
@@ -70,26 +69,6 @@ pub asked_client : {X : Type 0} (tell : X → Told) (right : ClientState → Sta
 asked_client tell right means v b client next t same is none read =
     subst (λ s. Asks tell right means s t (with_client next v)) same
     (asks_client tell right means v client next t is none read)
-
--- or memory was refused
-may_ask : {X : Type 0} (tell : X → Told) (right : ClientState → State → X) (means : Meanings) (b : PlaceState)
-    (client next : ClientState) (t : Told) → b.client ≡ Some client → b.reading ≡ None
-    → MayRead tell (right client) means client t next
-    → Lacks b t (with_client next b) ⊎ Asks tell right means b t (with_client next b)
-may_ask tell right means b client next t is none (inl lack) = inl (record {
-  told = lack.0;
-  left = inr (record { old = client; new = next; sits = is; stays = lack.1; left = refl });
-})
-may_ask tell right means b client next t is none (inr read) =
-    inr (asks_client tell right means b client next t is none read)
-
-pub may_client : {X : Type 0} (tell : X → Told) (right : ClientState → State → X) (means : Meanings)
-    (v b : PlaceState) (client next : ClientState) (t : Told) → v ≡ b → v.client ≡ Some client → v.reading ≡ None
-    → MayRead tell (right client) means client t next
-    → Lacks b t (with_client next v) ⊎ Asks tell right means b t (with_client next v)
-may_client tell right means v b client next t same is none read =
-    subst (λ s. Lacks s t (with_client next v) ⊎ Asks tell right means s t (with_client next v)) same
-    (may_ask tell right means v client next t is none read)
 
 -- what an open reading tells
 pub asked_reader : {X : Type 0} (tell : X → Told) (right : ClientState → State → X) (means : Meanings)
@@ -156,46 +135,11 @@ moment_nobody means v b f same none closed is =
 
 -- ---- replies
 
--- a reply whose bytes were written
-pub wrote_told : {X A E : Type 0} (tell : X → Told) (right : State → X) (means : Meanings) (client next : ClientState)
-    (x : X) (written : Result A E) (t : Told) (start mid text : Bytes) → start ≡ [] → OnOk written (mid ≡ start ++ text)
-    → IfOk written (λ _. t ≡ told Done mid) → IfErr written (λ _. t ≡ dry) → tell x ≡ told Done text
-    → IsLinearized means tries client.seat.mark next.seat.mark (Ok x) no_change (λ s. Ok (right s))
-    → Stays ⊤ client next → MayRead tell right means client t next
-wrote_told tell right means client next x (Ok done) t start mid text empty printed ok err is answer stays =
-    inr (record {
-      reply = Ok x;
-      answer = answer;
-      refused = tt;
-      stays = stays;
-      told = ok ∙ ap (told Done) (printed ∙ ap (λ s. s ++ text) empty) ∙ sym is;
-    })
-wrote_told tell right means client next x (Err e) t start mid text empty printed ok err is answer stays =
-    inl (err, stays)
-
 -- bytes that were appended are behind those that were there
 pub appended : {A E : Type 0} (written : Result A E) (new old text : Bytes)
     → new ≡ (if is_ok written then old ++ text else old) → OnOk written (new ≡ old ++ text)
 appended (Ok done) new old text is = is
 appended (Err e) new old text is = tt
-
--- the reply of an open reading whose bytes were written, or memory was refused
-pub kept_told : {X A E : Type 0} (tell : X → Told) (right : State → X) (reader : ClientState) (x : X)
-    (written : Result A E) (t : Told) (start mid text : Bytes) → start ≡ [] → OnOk written (mid ≡ start ++ text)
-    → IfOk written (λ _. t ≡ told Done mid) → IfErr written (λ _. t ≡ dry) → tell x ≡ told Done text
-    → x ≡ right (read_by reader) → ReadsKept tell right reader t
-kept_told tell right reader x (Ok done) t start mid text empty printed ok err is answer = record {
-  reply = Ok x;
-  answer = answer;
-  refused = tt;
-  told = ok ∙ ap (told Done) (printed ∙ ap (λ s. s ++ text) empty) ∙ sym is;
-}
-kept_told tell right reader x (Err e) t start mid text empty printed ok err is answer = record {
-  reply = Err NoMemory;
-  answer = tt;
-  refused = inl refl;
-  told = err;
-}
 
 -- a refusal of one query is one of another
 pub refused_as : {X Y : Type 0} (means : Meanings) (n : ℕ) (old new : Known) (is_mute : Bool) (e : Refusal)

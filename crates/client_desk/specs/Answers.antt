@@ -135,11 +135,17 @@ pub record Leaves (client : ClientState) (before : PlaceState) (t : Told) (after
 
 -- ---- calls that change nothing in the group
 
--- The client reads, and the reply is right at a point of the group's record; it is told.
+-- the state up to which a client knows the record: behind a query, and in an open reading, the one that was read
+abbrev pub read_by : ClientState → State
+read_by client = after (record_of client.seat.mark.log)
+
+-- The client reads, and the reply is right at a point of the group's record, up to which it knows the record then; it
+-- is told.
 pub record ReadsBy {X : Type 0} (tell : X → Told) (right : State → X) (means : Meanings) (client : ClientState)
     (t : Told) (next : ClientState) : Type 0 where
   pub reply : Result X Refusal
   pub answer : IsLinearized means tries client.seat.mark next.seat.mark reply no_change (λ s. Ok (right s))
+  pub at : IfOk reply (λ x. x ≡ right (read_by next))
   pub refused : IfErr reply (IsMissedOrDry ⊤)
   pub stays : Stays ⊤ client next
   pub told : t ≡ tells tell reply
@@ -148,10 +154,6 @@ pub record ReadsBy {X : Type 0} (tell : X → Told) (right : State → X) (means
 abbrev pub Reads : {X : Type 0} → (X → Told) → (State → X) → Meanings → ClientState → Rule
 Reads tell right means client before t after =
     (next : ClientState) × ReadsBy tell right means client t next × (after ≡ with_client next before)
-
--- the state at the moment of an open reading
-abbrev pub read_by : ClientState → State
-read_by reader = after (record_of reader.seat.mark.log)
 
 -- the reply of an open reading is right at its moment
 pub record ReadsKept {X : Type 0} (tell : X → Told) (right : State → X) (reader : ClientState) (t : Told) : Type 0 where

@@ -3,8 +3,8 @@
 //! A place is at a group. A client sits down there, makes its calls and leaves; another one may sit there then. What
 //! it keeps from call to call, tickets and watches, has numbers. `place` has what each call does that is no change,
 //! `queries` those that ask, `readings` how a reading begins and ends, `changes` the others, `waiting` changes that
-//! wait for others; `reading`, `as_of` and `drafts` what queries tell, by the client, by its open reading and by a
-//! run, `printing` and `rows` the texts of rows, `kept` what is kept under numbers.
+//! wait for others; `reading` and `drafts` what queries tell, at a commit and by a run, `printing` and `rows` the texts
+//! of rows, `kept` what is kept under numbers.
 //!
 //! What each call may tell, and how it leaves the place, is `specs/Answers.antt`: the client's own call of `rebase` is
 //! made, and its reply is told. No call waits but those of `waiting`: one begins anew 1,000,000 times where others are
@@ -26,7 +26,6 @@
 //! and its seat is answered (`specs/Closing.antt`).
 #![tactic(auto)]
 
-mod as_of;
 mod calls;
 mod changes;
 mod drafts;

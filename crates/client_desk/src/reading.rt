@@ -1,29 +1,30 @@
-//! What a client reads, and how it is told.
-ghost use Rattle.std.specs.Prelude.{◌≡◌, ⊤, [], drop, map, Ok, IfErr, IfOk};
+//! What a query is answered at a commit, and how it is told: by a reading that is open, or by a client that reads once.
+ghost use Rattle.std.specs.Prelude.{◌≡◌, ⊤, [], drop, map, true, None, Ok, IfErr, IfOk};
 ghost use Rattle.std.specs.FinMap as finite;
-ghost use Rattle.group_history.specs.Queries.{get_at, has_at, is_empty_at, view_rows};
+ghost use Rattle.group_history.specs.Record.{after};
 ghost use Rattle.group_history.specs.Scans.{rows_of};
-ghost use Rattle.answered.specs.Answered.{IsLinearized, no_change};
+ghost use Rattle.group_history.specs.Spelling.{version_of};
+ghost use Rattle.answered.specs.Answered.{IsLinearized, IsPoint, no_change};
 ghost use Rattle.group_steps.specs.Missing.{IsMissedOrDry, map_ok};
-ghost use Rattle.group_history.specs.Rows.{Rows};
+ghost use Rattle.head_word.specs.Books.{record_of};
 ghost use Rattle.push_body.specs.Bodies.{push_text};
 ghost use Rattle.push_body.specs.Rows.{array_text, row_text};
 ghost use Rattle.rebase.specs.Clients.{Stays};
-ghost use Rattle.rebase.specs.Queries.{gave};
-ghost use Rattle.rebase.specs.Readers.{read_by};
-ghost use Rattle.client_desk.specs.Answers.{CountsBy, ReadsBy};
-ghost use Rattle.client_desk.specs.Told.{bytes_told, cookie_told, dry, is_told, pending_told, rows_told, told};
-ghost use Rattle.client_desk.specs.Told.{told_alone, value_told};
-ghost use Rattle.client_desk.specs.Inside.Reading.{MayRead};
+ghost use Rattle.rebase.specs.Readers.{lent, read_by, seen_by};
+ghost use Rattle.client_desk.specs.Answers.{CountsBy, ReadsBy, ReadsKept};
+ghost use Rattle.client_desk.specs.Told.{bytes_told, cookie_told, dry, pending_told, rows_told, tells, told};
+ghost use Rattle.client_desk.specs.Told.{value_told};
+ghost use Rattle.client_desk.specs.Inside.Reading.{ToldBy, ToldKept, is_pulled, is_query, query_told};
 ghost use Rattle.client_desk.specs.declared.outcomes.Outcome.TheVariants.{Done};
 
+use crate::calls::Call;
 use crate::outcomes::Outcome;
 use crate::place::TRIES;
 use crate::printing::{print_pending, print_slots};
 use crate::rows::RowList;
 use commit_graph::StoreNodes;
 use group_history::{Cookie, Json, Means, Mutation, Refusal, Scan};
-use rebase::{Arena, Client, CommitTx, ReadTx};
+use rebase::{Arena, Client, CommitTx, ReadTx, Reader};
 use std::alloc::{AllocError, Global};
 use std::mem::replace;
 
@@ -37,82 +38,6 @@ pub(crate) fn wrote(written: Result<(), AllocError>, bytes: &mut Vec<u8>) -> Out
         return Outcome::Refused(Refusal::NoMemory);
     }
     Outcome::Done
-}
-
-fn value_at<M: Means + Sync>(
-    client: &mut Client<M, Arena<M>>,
-    key: &str,
-) -> Result<Option<Json>, Refusal>
-    ensures answer { IsLinearized M.means TRIES client.old.seat.mark client.new.seat.mark result no_change
-        (λ s. Ok (get_at M.means s key.now)) }
-    ensures refused { IfErr result (IsMissedOrDry ⊤) }
-    ensures stays { Stays ⊤ client.old client.new }
-{
-    let tx = client.read(TRIES)?;
-    let found = tx.get(key);
-    tx.close();
-    found
-}
-
-/// Tells the value at a key.
-pub(crate) fn tell_value<M: Means + Sync>(
-    client: &mut Client<M, Arena<M>>,
-    key: &str,
-    bytes: &mut Vec<u8>,
-) -> Outcome
-    requires { bytes.old.items ≡ [] }
-    ensures { MayRead value_told (λ s. get_at M.means s key.now) M.means client.old (told result bytes.new.items)
-        client.new }
-{
-    match value_at(client, key) {
-        Ok(Some(json)) => wrote(bytes.extend_from_slice(json.text().as_bytes()), bytes),
-        Ok(None) => Outcome::Nothing,
-        Err(refusal) => Outcome::Refused(refusal),
-    }
-}
-
-fn is_there<M: Means + Sync>(client: &mut Client<M, Arena<M>>, key: &str) -> Result<bool, Refusal>
-    ensures answer { IsLinearized M.means TRIES client.old.seat.mark client.new.seat.mark result no_change
-        (λ s. Ok (has_at M.means s key.now)) }
-    ensures refused { IfErr result (IsMissedOrDry ⊤) }
-    ensures stays { Stays ⊤ client.old client.new }
-{
-    let tx = client.read(TRIES)?;
-    let found = tx.has(key);
-    tx.close();
-    found
-}
-
-/// Tells whether a key is there.
-pub(crate) fn tell_has<M: Means + Sync>(client: &mut Client<M, Arena<M>>, key: &str) -> Outcome
-    ensures { ReadsBy is_told (λ s. has_at M.means s key.now) M.means client.old (told_alone result) client.new }
-{
-    match is_there(client, key) {
-        Ok(is) => Outcome::Is(is),
-        Err(refusal) => Outcome::Refused(refusal),
-    }
-}
-
-fn is_empty_at<M: Means + Sync>(client: &mut Client<M, Arena<M>>) -> Result<bool, Refusal>
-    ensures answer { IsLinearized M.means TRIES client.old.seat.mark client.new.seat.mark result no_change
-        (λ s. Ok (is_empty_at M.means s)) }
-    ensures refused { IfErr result (IsMissedOrDry ⊤) }
-    ensures stays { Stays ⊤ client.old client.new }
-{
-    let tx = client.read(TRIES)?;
-    let found = tx.is_empty();
-    tx.close();
-    found
-}
-
-/// Tells whether no key is there.
-pub(crate) fn tell_empty<M: Means + Sync>(client: &mut Client<M, Arena<M>>) -> Outcome
-    ensures { ReadsBy is_told (λ s. is_empty_at M.means s) M.means client.old (told_alone result) client.new }
-{
-    match is_empty_at(client) {
-        Ok(is) => Outcome::Is(is),
-        Err(refusal) => Outcome::Refused(refusal),
-    }
 }
 
 // The rows of a scan of what is read, as a JSON array that is written to bytes of which there are none yet.
@@ -134,216 +59,199 @@ pub(crate) fn rows_in<'a, M: Means + Sync>(
     Ok(list.end()?)
 }
 
-// The same of the view, by a client.
-fn rows_at<M: Means + Sync>(
-    client: &mut Client<M, Arena<M>>,
-    scan: &Scan,
-    bytes: Vec<u8>,
-) -> Result<Vec<u8>, Refusal>
-    requires { bytes.items ≡ [] }
-    ensures answer { (rows : Rows) × IsLinearized M.means TRIES client.old.seat.mark client.new.seat.mark
-        (gave rows result) no_change (λ s. Ok (view_rows M.means s scan.now))
-        × IfOk result (λ text. text.items ≡ array_text (map row_text rows)) }
-    ensures refused { IfErr result (IsMissedOrDry ⊤) }
-    ensures stays { Stays ⊤ client.old client.new }
+// The value at a key, if there is one.
+fn tell_value(found: Option<Json>, bytes: &mut Vec<u8>) -> Result<Outcome, AllocError>
+    requires { bytes.old.items ≡ [] }
+    ensures { IfOk result (λ outcome. told outcome bytes.new.items ≡ value_told found) }
 {
-    let mut list = RowList::new(bytes);
-    if let Err(refusal) = client.scan_into(scan, &mut list, TRIES) {
-        drop(list);
-        return Err(refusal);
-    }
-    Ok(list.end()?)
+    let Some(json) = found else {
+        return Ok(Outcome::Nothing);
+    };
+    bytes.extend_from_slice(json.text().as_bytes())?;
+    Ok(Outcome::Done)
 }
 
-/// Tells the rows of a scan.
-pub(crate) fn tell_rows<M: Means + Sync>(
+fn tell_pending(found: &[Mutation], bytes: &mut Vec<u8>) -> Result<Outcome, AllocError>
+    requires { bytes.old.items ≡ [] }
+    ensures { IfOk result (λ outcome. told outcome bytes.new.items ≡ pending_told found.now) }
+{
+    print_pending(found, bytes)?;
+    Ok(Outcome::Done)
+}
+
+fn tell_cookie(found: &Cookie, bytes: &mut Vec<u8>) -> Result<Outcome, AllocError>
+    requires { bytes.old.items ≡ [] }
+    ensures { IfOk result (λ outcome. told outcome bytes.new.items ≡ cookie_told found.now) }
+{
+    bytes.extend_from_slice(found.text().as_bytes())?;
+    Ok(Outcome::Done)
+}
+
+fn tell_rows<'a, M: Means + Sync>(
     alloc: Global,
-    client: &mut Client<M, Arena<M>>,
+    tx: &mut CommitTx<StoreNodes<'a, M, Arena<M>>>,
     scan: &Scan,
     bytes: &mut Vec<u8>,
-) -> Outcome
+) -> Result<Outcome, Refusal>
     requires { bytes.old.items ≡ [] }
-    ensures { MayRead rows_told (λ s. view_rows M.means s scan.now) M.means client.old (told result bytes.new.items)
-        client.new }
+    ensures told { IfOk result (λ outcome. told outcome bytes.new.items
+        ≡ rows_told (rows_of scan.now tx.old.version.read)) }
+    ensures refused { IfErr result (IsMissedOrDry ⊤) }
 {
-    match rows_at(client, scan, replace(bytes, Vec::new(alloc))) {
-        Ok(rows) => {
-            *bytes = rows;
-            Outcome::Done
-        }
-        Err(refusal) => Outcome::Refused(refusal),
-    }
+    *bytes = rows_in(tx, scan, replace(bytes, Vec::new(alloc)))?;
+    Ok(Outcome::Done)
 }
 
-// The value at a key of what the server last sent.
-fn pulled_in<M: Means + Sync>(
-    tx: &ReadTx<'_, M, Arena<M>>,
-    key: &str,
-) -> Result<Option<Json>, Refusal>
-    ensures answer { IfOk result (λ found. found ≡ finite.get (read_by tx.now).pulled key.now) }
+// Tells what the server last sent: the value at a key, or the rows of a scan.
+fn tell_pulled<'a, M: Means + Sync>(
+    alloc: Global,
+    tx: CommitTx<StoreNodes<'a, M, Arena<M>>>,
+    call: Call<'_>,
+    bytes: &mut Vec<u8>,
+) -> Result<Outcome, Refusal>
+    requires query { is_pulled call ≡ true }
+    requires empty { bytes.old.items ≡ [] }
+    ensures told { IfOk result (λ outcome. told outcome bytes.new.items ≡ query_told tx.entry.version call.entry) }
     ensures refused { IfErr result (IsMissedOrDry ⊤) }
 {
     let mut pulled = tx.pulled()?;
-    Ok(pulled.get(key)?)
-}
-
-fn pulled_value_at<M: Means + Sync>(
-    client: &mut Client<M, Arena<M>>,
-    key: &str,
-) -> Result<Option<Json>, Refusal>
-    ensures answer { IsLinearized M.means TRIES client.old.seat.mark client.new.seat.mark result no_change
-        (λ s. Ok (finite.get s.pulled key.now)) }
-    ensures refused { IfErr result (IsMissedOrDry ⊤) }
-    ensures stays { Stays ⊤ client.old client.new }
-{
-    let tx = client.read(TRIES)?;
-    let found = pulled_in(&tx, key);
-    tx.close();
-    found
-}
-
-/// Tells what the server last sent at a key.
-pub(crate) fn tell_pulled_value<M: Means + Sync>(
-    client: &mut Client<M, Arena<M>>,
-    key: &str,
-    bytes: &mut Vec<u8>,
-) -> Outcome
-    requires { bytes.old.items ≡ [] }
-    ensures { MayRead value_told (λ s. finite.get s.pulled key.now) M.means client.old (told result bytes.new.items)
-        client.new }
-{
-    match pulled_value_at(client, key) {
-        Ok(Some(json)) => wrote(bytes.extend_from_slice(json.text().as_bytes()), bytes),
-        Ok(None) => Outcome::Nothing,
-        Err(refusal) => Outcome::Refused(refusal),
+    match call {
+        Call::PulledGet(key) => {
+            return Ok(tell_value(pulled.get(key)?, bytes)?);
+        }
+        Call::PulledScan(scan) => {
+            return tell_rows(alloc, &mut pulled, scan, bytes);
+        }
+        _ => unreachable!(),
     }
 }
 
-// The rows of a scan of what the server last sent.
-fn pulled_rows_in<M: Means + Sync>(
+// Tells what a query is answered at a commit.
+fn tell_query<'a, M: Means + Sync>(
+    alloc: Global,
+    tx: CommitTx<StoreNodes<'a, M, Arena<M>>>,
+    call: Call<'_>,
+    bytes: &mut Vec<u8>,
+) -> Result<Outcome, Refusal>
+    requires query { is_query call ≡ true }
+    requires empty { bytes.old.items ≡ [] }
+    ensures told { IfOk result (λ outcome. told outcome bytes.new.items ≡ query_told tx.entry.version call.entry) }
+    ensures refused { IfErr result (IsMissedOrDry ⊤) }
+{
+    let mut tx = tx;
+    match call {
+        Call::Get(key) => {
+            return Ok(tell_value(tx.get(key)?, bytes)?);
+        }
+        Call::Has(key) => {
+            return Ok(Outcome::Is(tx.has(key)?));
+        }
+        Call::Scan(scan) => {
+            return tell_rows(alloc, &mut tx, scan, bytes);
+        }
+        Call::Empty => {
+            return Ok(Outcome::Is(tx.is_empty()?));
+        }
+        Call::Pending => {
+            return Ok(tell_pending(&tx.pending()?, bytes)?);
+        }
+        Call::Cookie => {
+            return Ok(tell_cookie(&tx.cookie()?, bytes)?);
+        }
+        Call::Closed => {
+            return Ok(Outcome::Is(tx.closed()?));
+        }
+        other => {
+            return tell_pulled(alloc, tx, other, bytes);
+        }
+    }
+}
+
+// Tells what a query is answered by a reader.
+fn ask_reader<M: Means + Sync>(
+    alloc: Global,
     tx: &ReadTx<'_, M, Arena<M>>,
-    scan: &Scan,
-    bytes: Vec<u8>,
-) -> Result<Vec<u8>, Refusal>
-    requires { bytes.items ≡ [] }
-    ensures answer { IfOk result (λ text. text.items
-        ≡ array_text (map row_text (rows_of scan.now (read_by tx.now).pulled))) }
+    call: Call<'_>,
+    bytes: &mut Vec<u8>,
+) -> Result<Outcome, Refusal>
+    requires query { is_query call ≡ true }
+    requires empty { bytes.old.items ≡ [] }
+    ensures told { IfOk result (λ outcome. told outcome bytes.new.items
+        ≡ query_told (version_of M.means (read_by tx.now)) call.entry) }
     ensures refused { IfErr result (IsMissedOrDry ⊤) }
 {
-    let mut pulled = tx.pulled()?;
-    rows_in(&mut pulled, scan, bytes)
+    tell_query(alloc, tx.commit()?, call, bytes)
 }
 
-fn pulled_rows_at<M: Means + Sync>(
-    client: &mut Client<M, Arena<M>>,
-    scan: &Scan,
-    bytes: Vec<u8>,
-) -> Result<Vec<u8>, Refusal>
-    requires { bytes.items ≡ [] }
-    ensures answer { IsLinearized M.means TRIES client.old.seat.mark client.new.seat.mark
-        (map_ok (λ text. text.items) result) no_change
-        (λ s. Ok (array_text (map row_text (rows_of scan.now s.pulled)))) }
-    ensures refused { IfErr result (IsMissedOrDry ⊤) }
-    ensures stays { Stays ⊤ client.old client.new }
-{
-    let tx = client.read(TRIES)?;
-    let rows = pulled_rows_in(&tx, scan, bytes);
-    tx.close();
-    rows
-}
-
-/// Tells the rows of a scan of what the server last sent.
-pub(crate) fn tell_pulled_rows<M: Means + Sync>(
+// Tells what a query is answered by a client, which reads once.
+fn ask_client<M: Means + Sync>(
     alloc: Global,
     client: &mut Client<M, Arena<M>>,
-    scan: &Scan,
+    call: Call<'_>,
     bytes: &mut Vec<u8>,
-) -> Outcome
-    requires { bytes.old.items ≡ [] }
-    ensures { MayRead rows_told (λ s. rows_of scan.now s.pulled) M.means client.old (told result bytes.new.items)
-        client.new }
-{
-    match pulled_rows_at(client, scan, replace(bytes, Vec::new(alloc))) {
-        Ok(rows) => {
-            *bytes = rows;
-            Outcome::Done
-        }
-        Err(refusal) => Outcome::Refused(refusal),
-    }
-}
-
-fn pending_at<M: Means + Sync>(client: &mut Client<M, Arena<M>>) -> Result<Vec<Mutation>, Refusal>
+) -> Result<Outcome, Refusal>
+    requires query { is_query call ≡ true }
+    requires empty { bytes.old.items ≡ [] }
     ensures answer { IsLinearized M.means TRIES client.old.seat.mark client.new.seat.mark
-        (map_ok (λ xs. xs.items) result) no_change (λ s. Ok s.pending) }
+        (map_ok (λ outcome. told outcome bytes.new.items) result) no_change
+        (λ s. Ok (query_told (version_of M.means s) call.entry)) }
+    ensures point { IfOk result (λ _. IsPoint M.means client.old.seat.mark client.new.seat.mark None
+        client.new.seat.mark.log) }
+    ensures now { IfOk result (λ outcome. told outcome bytes.new.items
+        ≡ query_told (version_of M.means (after (record_of client.new.seat.mark.log))) call.entry) }
     ensures refused { IfErr result (IsMissedOrDry ⊤) }
     ensures stays { Stays ⊤ client.old client.new }
 {
     let tx = client.read(TRIES)?;
-    let found = tx.pending();
+    let reply = ask_reader(alloc, &tx, call, bytes);
     tx.close();
-    found
+    reply
 }
 
-/// Tells the pending mutations.
-pub(crate) fn tell_pending<M: Means + Sync>(
+// What was told, or why it was refused: then nothing is written.
+fn read_outcome(reply: Result<Outcome, Refusal>, bytes: &mut Vec<u8>) -> Outcome
+    ensures { told result bytes.new.items ≡ tells (λ t. t) (map_ok (λ outcome. told outcome bytes.old.items) reply) }
+{
+    match reply {
+        Ok(outcome) => outcome,
+        Err(refusal) => {
+            bytes.clear();
+            Outcome::Refused(refusal)
+        }
+    }
+}
+
+/// Tells what a query is answered by a client, which reads once. What is told as bytes is written, none where it was
+/// refused.
+pub(crate) fn tell_by_client<M: Means + Sync>(
+    alloc: Global,
     client: &mut Client<M, Arena<M>>,
+    call: Call<'_>,
     bytes: &mut Vec<u8>,
 ) -> Outcome
-    requires { bytes.old.items ≡ [] }
-    ensures { MayRead pending_told (λ s. s.pending) M.means client.old (told result bytes.new.items) client.new }
+    requires query { is_query call ≡ true }
+    requires empty { bytes.old.items ≡ [] }
+    ensures { ToldBy M.means client.old client.new (told result bytes.new.items)
+        (λ s. query_told (version_of M.means s) call.entry) }
 {
-    match pending_at(client) {
-        Ok(pending) => wrote(print_pending(&pending, bytes), bytes),
-        Err(refusal) => Outcome::Refused(refusal),
-    }
+    let reply = ask_client(alloc, client, call, bytes);
+    read_outcome(reply, bytes)
 }
 
-fn cookie_at<M: Means + Sync>(client: &mut Client<M, Arena<M>>) -> Result<Cookie, Refusal>
-    ensures answer { IsLinearized M.means TRIES client.old.seat.mark client.new.seat.mark result no_change
-        (λ s. Ok s.cookie) }
-    ensures refused { IfErr result (IsMissedOrDry ⊤) }
-    ensures stays { Stays ⊤ client.old client.new }
-{
-    let tx = client.read(TRIES)?;
-    let found = tx.cookie();
-    tx.close();
-    found
-}
-
-/// Tells the cookie.
-pub(crate) fn tell_cookie<M: Means + Sync>(
-    client: &mut Client<M, Arena<M>>,
+/// The same by a reading that is open.
+pub(crate) fn tell_by_reading<M: Means + Sync>(
+    alloc: Global,
+    reader: &Reader<M, Arena<M>>,
+    call: Call<'_>,
     bytes: &mut Vec<u8>,
 ) -> Outcome
-    requires { bytes.old.items ≡ [] }
-    ensures { MayRead cookie_told (λ s. s.cookie) M.means client.old (told result bytes.new.items) client.new }
+    requires query { is_query call ≡ true }
+    requires empty { bytes.old.items ≡ [] }
+    ensures { ToldKept reader.now (told result bytes.new.items)
+        (λ s. query_told (version_of M.means s) call.entry) }
 {
-    match cookie_at(client) {
-        Ok(cookie) => wrote(bytes.extend_from_slice(cookie.text().as_bytes()), bytes),
-        Err(refusal) => Outcome::Refused(refusal),
-    }
-}
-
-fn closed_at<M: Means + Sync>(client: &mut Client<M, Arena<M>>) -> Result<bool, Refusal>
-    ensures answer { IsLinearized M.means TRIES client.old.seat.mark client.new.seat.mark result no_change
-        (λ s. Ok s.closed) }
-    ensures refused { IfErr result (IsMissedOrDry ⊤) }
-    ensures stays { Stays ⊤ client.old client.new }
-{
-    let tx = client.read(TRIES)?;
-    let found = tx.closed();
-    tx.close();
-    found
-}
-
-/// Tells whether the group is closed.
-pub(crate) fn tell_closed<M: Means + Sync>(client: &mut Client<M, Arena<M>>) -> Outcome
-    ensures { ReadsBy is_told (λ s. s.closed) M.means client.old (told_alone result) client.new }
-{
-    match closed_at(client) {
-        Ok(is) => Outcome::Is(is),
-        Err(refusal) => Outcome::Refused(refusal),
-    }
+    let reply = tell_query(alloc, reader.tx(), call, bytes);
+    read_outcome(reply, bytes)
 }
 
 /// Tells the body of a push of what is pending, but for the oldest so many.
@@ -372,4 +280,23 @@ pub(crate) fn tell_slots<M: Means>(client: &mut Client<M, Arena<M>>, bytes: &mut
 {
     let counts = client.slots();
     wrote(print_slots(&counts, bytes), bytes)
+}
+
+/// The same by a reading that is open.
+pub(crate) fn tell_push_as_of<M: Means + Sync>(
+    reader: &Reader<M, Arena<M>>,
+    skip: usize,
+    bytes: &mut Vec<u8>,
+) -> Outcome
+    requires { bytes.old.items ≡ [] }
+    ensures { ReadsKept bytes_told (λ s. push_text reader.now.group.identity (drop skip s.pending)) reader.now
+        (told result bytes.new.items) }
+{
+    match reader.push_body(skip) {
+        Ok(body) => {
+            *bytes = body;
+            Outcome::Done
+        }
+        Err(refusal) => Outcome::Refused(refusal),
+    }
 }

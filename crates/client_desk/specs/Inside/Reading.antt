@@ -1,12 +1,63 @@
--- What a client that read tells.
-use Rattle.std.specs.Prelude.{◌≡◌, ◌⊎◌, ⊤}
+-- What queries are answered at a commit's version, and told.
+use Rattle.std.specs.Prelude.{◌≡◌, ◌==◌, ⊤, Bool, true, false, length, None, Result, Ok, IfErr, IfOk}
+use Rattle.std.specs.FinMap as finite
+use Rattle.group_history.specs.declared.refusals.Refusal.{Refusal}
 use Rattle.group_history.specs.Meaning.{Meanings}
+use Rattle.group_history.specs.Scans.{rows_of}
+use Rattle.group_history.specs.Spelling.{Version}
 use Rattle.group_history.specs.State.{State}
+use Rattle.answered.specs.Answered.{IsLinearized, IsPoint, no_change}
+use Rattle.group_steps.specs.Missing.{IsMissedOrDry}
 use Rattle.rebase.specs.Clients.{ClientState, Stays}
-use Rattle.client_desk.specs.Answers.{ReadsBy}
-use Rattle.client_desk.specs.Told.{Told, dry}
+use Rattle.client_desk.specs.declared.calls.Call.{Call}
+use Rattle.client_desk.specs.declared.calls.Call.TheVariants as call
+use Rattle.client_desk.specs.declared.outcomes.Outcome.TheVariants.{Nothing}
+use Rattle.client_desk.specs.Answers.{read_by, tries}
+use Rattle.client_desk.specs.Told.{Told, cookie_told, is_told, pending_told, rows_told, tells, told_alone, value_told}
 
--- its reply, or that memory was refused
-abbrev pub MayRead : {X : Type 0} → (X → Told) → (State → X) → Meanings → ClientState → Told → ClientState → Type 0
-MayRead tell right means client t next =
-    ((t ≡ dry) × Stays ⊤ client next) ⊎ ReadsBy tell right means client t next
+-- it reads what the server last sent
+abbrev pub is_pulled : Call → Bool
+is_pulled (call.PulledGet key) = true
+is_pulled (call.PulledScan scan) = true
+is_pulled other = false
+
+-- one commit answers it
+abbrev pub is_query : Call → Bool
+is_query (call.Get key) = true
+is_query (call.Has key) = true
+is_query (call.Scan scan) = true
+is_query call.Empty = true
+is_query call.Pending = true
+is_query call.Cookie = true
+is_query call.Closed = true
+is_query other = is_pulled other
+
+-- what it is told there
+abbrev pub query_told : Version → Call → Told
+query_told v (call.Get key) = value_told (finite.get v.read key.now)
+query_told v (call.Has key) = is_told (finite.contains_key v.read key.now)
+query_told v (call.Scan scan) = rows_told (rows_of scan.now v.read)
+query_told v (call.PulledGet key) = value_told (finite.get v.state.pulled key.now)
+query_told v (call.PulledScan scan) = rows_told (rows_of scan.now v.state.pulled)
+query_told v call.Empty = is_told (length (finite.entries v.read) == 0)
+query_told v call.Pending = pending_told v.state.pending
+query_told v call.Cookie = cookie_told v.state.cookie
+query_told v call.Closed = is_told v.state.closed
+query_told v other = told_alone Nothing
+
+-- A client read once, and what it told is right where it read.
+pub record ToldBy (means : Meanings) (client next : ClientState) (t : Told) (right : State → Told) : Type 0 where
+  pub reply : Result Told Refusal
+  pub answer : IsLinearized means tries client.seat.mark next.seat.mark reply no_change (λ s. Ok (right s))
+  pub point : IfOk reply (λ x. IsPoint means client.seat.mark next.seat.mark None next.seat.mark.log)
+  pub at : IfOk reply (λ x. x ≡ right (read_by next))
+  pub refused : IfErr reply (IsMissedOrDry ⊤)
+  pub stays : Stays ⊤ client next
+  pub told : t ≡ tells (λ x. x) reply
+
+-- What an open reading told is right where it reads.
+pub record ToldKept (reader : ClientState) (t : Told) (right : State → Told) : Type 0 where
+  pub reply : Result Told Refusal
+  pub answer : IfOk reply (λ x. x ≡ right (read_by reader))
+  pub refused : IfErr reply (IsMissedOrDry ⊤)
+  pub told : t ≡ tells (λ x. x) reply
