@@ -46,7 +46,7 @@ fn pulled_n_of(reader: &Kept) -> Result<Option<i64>, Refusal> {
 }
 
 // How often the reader tells another n than 6.
-fn wrong_reads(reader: &Kept) -> u32 {
+fn wrong_reads(reader: &mut Kept) -> u32 {
     let mut wrong = 0u32;
     for _ in 0..TIMES {
         if n_of(reader) != Ok(Some(6)) {
@@ -68,14 +68,19 @@ fn raises(client: &mut Caller, alloc: Global, times: u32) -> Result<u32, Refusal
     Ok(done)
 }
 
-// What a reader tells that is kept while the other client writes. It is ended whatever happens.
+// What a reader tells on a thread of its own while the other client writes. It is ended whatever happens.
 fn kept_beside<R: Threads + Sync>(
     rt: &R,
     alloc: Global,
     reader: Kept,
     other: &mut Caller,
 ) -> Result<Seen, Refusal> {
-    let (wrong, written) = join(rt, || wrong_reads(&reader), || raises(other, alloc, TIMES));
+    let mut reader = reader;
+    let (wrong, written) = join(
+        rt,
+        || wrong_reads(&mut reader),
+        || raises(other, alloc, TIMES),
+    );
     let pulled = pulled_n_of(&reader);
     let body = reader.push_body(0);
     let first = reader.moment();
