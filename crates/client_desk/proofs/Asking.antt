@@ -1,6 +1,8 @@
 -- A change that asks for runs: what came of it is of its group, and is told.
-use Rattle.std.proofs.Common.{◌≡◌, ◌⊎◌, inl, inr, [], ◌++◌, None, Some, Result, Ok, Err, refl, sym, ap, ◌∙◌, subst}
+use Rattle.std.proofs.Common.{◌≡◌, ◌⊎◌, inl, inr, ℕ, ◌+◌, ◌<◌, List, [], ◌∷◌, ◌++◌, length, take, get_or}
+use Rattle.std.proofs.Common.{None, Some, Result, Ok, Err, refl, sym, ap, ◌∙◌, subst}
 use Rattle.std.specs.Prelude.{⊤, Bool, IfErr, IfOk, OnOk}
+use Rattle.std.proofs.lemmas.List.{take_more}
 use Rattle.std.proofs.Math.Logic.{∥∥₁_elim, ∥∥₁_map}
 use Rattle.group_history.specs.declared.mutators.Ran.{Ran}
 use Rattle.group_history.specs.declared.refusals.Refusal.{Refusal}
@@ -8,6 +10,8 @@ use Rattle.group_history.specs.declared.refusals.Refusal.TheVariants.{NoMemory}
 use Rattle.group_history.specs.Map.{Bytes, Entries}
 use Rattle.group_history.specs.Meaning.{Meanings}
 use Rattle.group_steps.specs.Missing.{map_ok}
+use Rattle.pull_patch.specs.declared.writes.Write.{Write}
+use Rattle.pull_patch.specs.Writes.{written, wrote}
 use Rattle.rebase.specs.declared.asking.Asked.{Asked}
 use Rattle.rebase.specs.declared.asking.Asked.TheVariants as asked
 use Rattle.rebase.specs.declared.calls.Reply.{Reply}
@@ -17,7 +21,7 @@ use Rattle.rebase.specs.Replies.{Replied, reply_seen}
 use Rattle.rebase.specs.Running.{BeganAs, EndsCall, Follows, IsAsked, IsUnwritten, UnderWay}
 use Rattle.client_desk.specs.declared.faults.Fault.TheVariants as fault
 use Rattle.client_desk.specs.declared.outcomes.Outcome.TheVariants.{Done}
-use Rattle.client_desk.specs.Drafts.{AsksRun, ByRun, ReadsMap, Replies, WritesDraft, WritesMap}
+use Rattle.client_desk.specs.Drafts.{AsksRun, ByRun, ReadsMap, Replies, WritesAll, WritesDraft, WritesMap}
 use Rattle.client_desk.specs.Inside.Sitting.{IsAt, IsStepAt, Stands}
 use Rattle.client_desk.specs.Places.{PlaceState, with_asking}
 use Rattle.client_desk.specs.Runs.{AsksNext, EndsRuns, IsAsking, IsBegunAt}
@@ -48,27 +52,33 @@ step_behind has means group (asked.Run a) was begun told fresh =
 step_behind has means group (asked.Ended c r) was begun told fresh =
     ∥∥₁_elim begun (at_prop group c) (λ b. at_later group b.0 c (b.1, b.2) (told b.0 b.3).acts)
 
+-- nothing but the map of a run differs
+abbrev pub IsWritten : UnderWay → UnderWay → Type 0
+IsWritten was now = (m : Entries) × (now ≡ record was { map = m })
+
+pub one_written : (change : Entries → Entries) (was now : UnderWay) (t : Told) → WritesMap change was t now
+    → IsWritten was now
+one_written change was now t (inl (told, is)) = (change was.map, is)
+one_written change was now t (inr (e, missed, told, same)) = (was.map, same)
+
+pub all_written : (ws : List Write) (was now : UnderWay) (t : Told) → WritesAll ws was t now → IsWritten was now
+all_written ws was now t (inl (told, is)) = (written ws was.map, is)
+all_written ws was now t (inr (n, within, e, missed, told, is)) = (written (take n ws) was.map, is)
+
 -- the call of a run whose map was written began as before
-begun_written : (means : Meanings) (group : Grouped) (change : Entries → Entries) (was now : UnderWay) (t : Told)
-    → WritesMap change was t now → IsBegunAt means group was → IsBegunAt means group now
-begun_written means group change was now t (inl (told, is)) begun =
+begun_written : (means : Meanings) (group : Grouped) (was now : UnderWay) → IsWritten was now
+    → IsBegunAt means group was → IsBegunAt means group now
+begun_written means group was now (m, is) begun =
     ∥∥₁_map begun (λ b.
-    let began : BeganAs means ⊤ b.0 (record was { map = change was.map }) =
+    let began : BeganAs means ⊤ b.0 (record was { map = m }) =
     record { client = b.3.client; last = b.3.last; since = b.3.since } in
     (b.0, b.1, b.2, subst (BeganAs means ⊤ b.0) (sym is) began))
-begun_written means group change was now t (inr (e, missed, told, same)) begun =
-    subst (IsBegunAt means group) (sym same) begun
 
 -- and its mutation is the same
-pub asked_written : (has : Bytes → Bool) (means : Meanings) (group : Grouped) (change : Entries → Entries)
-    (was now : UnderWay) (t : Told) → WritesMap change was t now → IsAsking has means group was
-    → IsAsking has means group now
-asked_written has means group change was now t (inl (told, is)) asking = (
-  ap (λ (a : UnderWay). has a.mutation.name) is ∙ asking.0,
-  begun_written means group change was now t (inl (told, is)) asking.1,
-)
-asked_written has means group change was now t (inr (e, missed, told, same)) asking =
-    subst (IsAsking has means group) (sym same) asking
+pub asked_written : (has : Bytes → Bool) (means : Meanings) (group : Grouped) (was now : UnderWay) → IsWritten was now
+    → IsAsking has means group was → IsAsking has means group now
+asked_written has means group was now (m, is) asking =
+    (ap (λ (a : UnderWay). has a.mutation.name) is ∙ asking.0, begun_written means group was now (m, is) asking.1)
 
 -- ---- what is told of it
 
@@ -139,8 +149,19 @@ map_told tell right asking x (Err e) t start mid text empty printed ok err is an
 }
 
 -- it was written, of a place that is seen so
-pub written_told : (change : Entries → Entries) (v b : PlaceState) (a next : UnderWay) (t : Told) → v ≡ b
-    → v.asking ≡ Some a → WritesMap change a t next → ByRun (WritesDraft change) b t (with_asking next v)
-written_told change v b a next t same is written =
-    subst (λ s. ByRun (WritesDraft change) s t (with_asking next v)) same
-    (at_some v.asking fault.NotAsked (WritesDraft change) a v t (with_asking next v) is (next, written, refl))
+pub written_told : (writes : UnderWay → Told → UnderWay → Type 0) (v b : PlaceState) (a next : UnderWay) (t : Told)
+    → v ≡ b → v.asking ≡ Some a → writes a t next → ByRun (WritesDraft writes) b t (with_asking next v)
+written_told writes v b a next t same is done =
+    subst (λ s. ByRun (WritesDraft writes) s t (with_asking next v)) same
+    (at_some v.asking fault.NotAsked (WritesDraft writes) a v t (with_asking next v) is (next, done, refl))
+
+-- one write more is done behind those before it
+pub one_more : (ws : List Write) (w : Write) (m : Entries) → written (ws ++ w ∷ []) m ≡ wrote w (written ws m)
+one_more [] w m = refl
+one_more (x ∷ ws) w m = one_more ws w (wrote x m)
+
+pub taken_more : (ws : List Write) (n : ℕ) (w : Write) (m : Entries) → n < length ws → w ≡ get_or ws n w
+    → written (take (n + 1) ws) m ≡ wrote w (written (take n ws) m)
+taken_more ws n w m within is =
+    ap (λ xs. written xs m) (take_more ws n w within ∙ ap (λ x. take n ws ++ x ∷ []) (sym is))
+    ∙ one_more (take n ws) w m

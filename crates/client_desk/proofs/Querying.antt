@@ -106,6 +106,7 @@ module _ (means : Meanings) (b : PlaceState) (t : Told) (a : PlaceState) (IsTold
   each_query (kind.Mutate m) q h = absurd (cc q)
   each_query (kind.Watch keep scan) q h = absurd (cc q)
   each_query (kind.Poll n) q h = absurd (cc q)
+  each_query (kind.PollChanges n) q h = absurd (cc q)
   each_query (kind.Unwatch n) q h = absurd (cc q)
   each_query kind.AskedName q h = absurd (cc q)
   each_query kind.AskedArgs q h = absurd (cc q)
@@ -115,6 +116,7 @@ module _ (means : Meanings) (b : PlaceState) (t : Told) (a : PlaceState) (IsTold
   each_query (kind.DraftScan scan) q h = absurd (cc q)
   each_query (kind.DraftPut key value) q h = absurd (cc q)
   each_query (kind.DraftDel key) q h = absurd (cc q)
+  each_query (kind.DraftWrites ws) q h = absurd (cc q)
   each_query (kind.Ran ran) q h = absurd (cc q)
   each_query kind.GiveUp q h = absurd (cc q)
 

@@ -1,7 +1,6 @@
 -- A call of the client that sits at a place, but for one that sits down, leaves or begins a reading, leaves the same
 -- client there, which knows no less; and it asks for no run.
-use Rattle.std.proofs.Common.{◌≡◌, List, [], ap, inl, inr, ◌∙◌, refl, subst, sym, true, Option, Some, None, Result, Ok}
-use Rattle.std.proofs.Common.{Err}
+use Rattle.std.proofs.Common.{◌≡◌, ℕ, [], ap, inl, inr, ◌∙◌, refl, subst, sym, true, Option, Some, None, Result, Ok, Err}
 use Rattle.std.proofs.lemmas.List.{append-nil}
 use Rattle.std.specs.Prelude.{⊤, drop}
 use Rattle.std.specs.FinMap as finite
@@ -15,10 +14,8 @@ use Rattle.commit_graph.specs.Seats.{IsSameSeat, Seated}
 use Rattle.rebase.specs.Clients.{ClientState, IsSameClient, Looks}
 use Rattle.rebase.specs.Queries.{Asked as Begun}
 use Rattle.rebase.specs.Running.{UnderWay}
-use Rattle.rebase.specs.Watching.{Watched}
 use Rattle.rebase.specs.declared.calls.Call.{Call as Changing}
 use Rattle.rebase.specs.declared.calls.Call.TheVariants as changing
-use Rattle.rebase.specs.declared.tickets.Ticket.{Ticket}
 use Rattle.group_history.specs.declared.refusals.Refusal.{Refusal}
 use Rattle.client_desk.specs.declared.calls.Call.{Call}
 use Rattle.client_desk.specs.declared.calls.Call.TheVariants as call
@@ -26,8 +23,9 @@ use Rattle.client_desk.specs.declared.calls.Keep.{Keep}
 use Rattle.client_desk.specs.declared.faults.Fault.{Fault}
 use Rattle.client_desk.specs.declared.faults.Fault.TheVariants as fault
 use Rattle.client_desk.specs.Answers.{Asks, AsksAs, At, Begins, ByClient, CountsFree, EndsReading, HasOnlyLooked}
-use Rattle.client_desk.specs.Answers.{IsBegun, Lacks, Polls, Reads, Refreshes, Rule, TellsMoment, TellsMomentAs}
-use Rattle.client_desk.specs.Answers.{Unwatches, Watches, absent, made_room}
+use Rattle.client_desk.specs.Answers.{IsBegun, Lacks, Polls, PollsAs, PollsChanges, Reads, Refreshes, Rule, Telling}
+use Rattle.client_desk.specs.Answers.{TellsChanges, TellsMoment, TellsMomentAs, TellsRows, Unwatches, Watches, absent}
+use Rattle.client_desk.specs.Answers.{made_room}
 use Rattle.client_desk.specs.Calls.{AnswersCalm, MayAnswerAt}
 use Rattle.client_desk.specs.Inside.Sitting.{IsCalm}
 use Rattle.client_desk.specs.Kept.{kept_at}
@@ -137,6 +135,12 @@ module _ (means : Meanings) (c : ClientState) (b a : PlaceState) (t : Told) (sit
   waits_sits : (is : Changing → Type 0) → Waits means is c b t a → Sits c a
   waits_sits is w = moved_on w.next (ap who w.left) w.acts.client w.acts.seat
 
+  polls_sits : (telling : Telling) (n : ℕ) → At (kept_at b.watches n) fault.NoWatch
+      (λ watch. PollsAs telling means c n watch) b t a → Sits c a
+  polls_sits telling n h =
+      at_sits (kept_at b.watches n) fault.NoWatch (λ watch. PollsAs telling means c n watch)
+      (λ watch p. by_looks p.next (ap who p.left) p.stays.0) h
+
   pub remains : (made : Call) → IsSitting made → MayAnswerWaiting means made b t a → Sits c a
   remains (call.Mutate m) is h = by_sits (Waits means (λ x. x ≡ changing.Mutate m)) (waits_sits _) h
   remains (call.End n body) is h =
@@ -164,8 +168,11 @@ module _ (means : Meanings) (c : ClientState) (b a : PlaceState) (t : Told) (sit
   remains (call.Poll n) is h =
       calm_sits (call.Poll n) (by_sits
       (λ c p. At (kept_at p.watches n) fault.NoWatch (λ watch. Polls means c n watch) p)
-      (at_sits (kept_at b.watches n) fault.NoWatch (λ watch. Polls means c n watch)
-      (λ watch p. by_looks p.next (ap who p.left) p.stays.0))) h
+      (polls_sits TellsRows n)) h
+  remains (call.PollChanges n) is h =
+      calm_sits (call.PollChanges n) (by_sits
+      (λ c p. At (kept_at p.watches n) fault.NoWatch (λ watch. PollsChanges means c n watch) p)
+      (polls_sits TellsChanges n)) h
   remains (call.Unwatch n) is h =
       calm_sits (call.Unwatch n) (at_sits (kept_at b.watches n) fault.NoWatch (Unwatches n)
       (λ kept u. as_before (ap who u.1))) h

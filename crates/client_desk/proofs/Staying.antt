@@ -16,8 +16,9 @@ use Rattle.client_desk.specs.declared.calls.Keep.{Keep}
 use Rattle.client_desk.specs.declared.faults.Fault.{Fault}
 use Rattle.client_desk.specs.declared.faults.Fault.TheVariants as fault
 use Rattle.client_desk.specs.Answers.{Asks, AsksAs, At, Begins, ByClient, CountsFree, EndsReading, Forgets, IsBegun}
-use Rattle.client_desk.specs.Answers.{Lacks, Leaves, MayBeginReading, Polls, Reads, Refreshes, Rule, Sits, TellsMoment}
-use Rattle.client_desk.specs.Answers.{TellsMomentAs, Unwatches, Watches, absent, made_room}
+use Rattle.client_desk.specs.Answers.{Lacks, Leaves, MayBeginReading, Polls, PollsAs, PollsChanges, Reads, Refreshes}
+use Rattle.client_desk.specs.Answers.{Rule, Sits, Telling, TellsChanges, TellsMoment, TellsMomentAs, TellsRows}
+use Rattle.client_desk.specs.Answers.{Unwatches, Watches, absent, made_room}
 use Rattle.client_desk.specs.Calls.{AnswersCalm, MayAnswerAt}
 use Rattle.client_desk.specs.Places.{PlaceState, client_at}
 use Rattle.client_desk.specs.Kept.{kept_at}
@@ -118,8 +119,11 @@ module _ (means : Meanings) (b a : PlaceState) (t : Told) where
   unwatches_stays : (n : ℕ) (watch : Watched) → Unwatches n watch b t a → Stays
   unwatches_stays n watch u = ap group_of u.1
 
-  polls_stays : (n : ℕ) (c : ClientState) (watch : Watched) → Polls means c n watch b t a → Stays
-  polls_stays n c watch p = ap group_of p.left
+  polls_stays : (telling : Telling) (n : ℕ) (c : ClientState) → At (kept_at b.watches n) fault.NoWatch
+      (λ watch. PollsAs telling means c n watch) b t a → Stays
+  polls_stays telling n c h =
+      at_stays (kept_at b.watches n) fault.NoWatch (λ watch. PollsAs telling means c n watch)
+      (λ watch p. ap group_of p.left) h
 
   waits_stays : (is : Changing → Type 0) (c : ClientState) → Waits means is c b t a → Stays
   waits_stays is c w = ap group_of w.left
@@ -152,7 +156,11 @@ module _ (means : Meanings) (b a : PlaceState) (t : Told) where
   stays (call.Poll n) none h =
       calm_stays (call.Poll n) none (by_stays
       (λ c p. At (kept_at p.watches n) fault.NoWatch (λ watch. Polls means c n watch) p)
-      (λ c. at_stays (kept_at b.watches n) fault.NoWatch (λ watch. Polls means c n watch) (polls_stays n c))) h
+      (polls_stays TellsRows n)) h
+  stays (call.PollChanges n) none h =
+      calm_stays (call.PollChanges n) none (by_stays
+      (λ c p. At (kept_at p.watches n) fault.NoWatch (λ watch. PollsChanges means c n watch) p)
+      (polls_stays TellsChanges n)) h
   stays (call.Unwatch n) none h =
       calm_stays (call.Unwatch n) none (at_stays (kept_at b.watches n) fault.NoWatch (Unwatches n)
       (unwatches_stays n)) h

@@ -10,7 +10,7 @@ use Rattle.rebase.specs.Clients.{ClientState, Grouped, Stays}
 use Rattle.rebase.specs.Watching.{Watched}
 use Rattle.client_desk.specs.declared.calls.Keep.{Keep}
 use Rattle.client_desk.specs.declared.faults.Fault.TheVariants as fault
-use Rattle.client_desk.specs.Answers.{At, ByClient, Lacks, Polls, Rule, Watches, absent}
+use Rattle.client_desk.specs.Answers.{At, ByClient, Lacks, PollsAs, Rule, Telling, Watches, absent}
 use Rattle.client_desk.specs.Inside.Keeping.{AreOf, IsPolled, KeepsWatch}
 use Rattle.client_desk.specs.Kept.{kept_at, room_for}
 use Rattle.client_desk.specs.Places.{PlaceState, with_client, with_watches}
@@ -69,8 +69,8 @@ watched keep scan v b client watch t room new same is anew made kept =
     (subst (λ w. KeepsWatch keep w t room new) anew kept)))
 
 -- the watch of a number, of the client that sits there
-abbrev pub PollsAt : Meanings → ℕ → ClientState → Rule
-PollsAt means n c p = At (kept_at p.watches n) fault.NoWatch (λ w. Polls means c n w) p
+abbrev pub PollsAt : Telling → Meanings → ℕ → ClientState → Rule
+PollsAt telling means n c p = At (kept_at p.watches n) fault.NoWatch (λ w. PollsAs telling means c n w) p
 
 -- a watch that is as it was is where it was
 as_it_was : (v : PlaceState) (next : ClientState) (n : ℕ) (watch new : Watched)
@@ -80,19 +80,19 @@ as_it_was v next n watch new there same =
     ap (λ ws. with_watches next ws v) (ap (slice_set v.watches n) (ap Some same ∙ sym there)
     ∙ set-get_or v.watches n None)
 
-polled_here : (means : Meanings) (v : PlaceState) (client next : ClientState) (n : ℕ) (watch new : Watched) (t : Told)
-    → v.client ≡ Some client → kept_at v.watches n ≡ Some watch
-    → IsPolled means client next watch new t
+polled_here : (telling : Telling) (means : Meanings) (v : PlaceState) (client next : ClientState) (n : ℕ)
+    (watch new : Watched) (t : Told) → v.client ≡ Some client → kept_at v.watches n ≡ Some watch
+    → IsPolled telling means client next watch new t
     → Stays ⊤ client next ⊎ ((next ≡ client) × (t ≡ dry) × (new ≡ watch))
     → Lacks v t (with_watches next (slice_set v.watches n (Some new)) v)
-    ⊎ ByClient (PollsAt means n) v t (with_watches next (slice_set v.watches n (Some new)) v)
-polled_here means v client next n watch new t is there how (inr (same, lack, kept)) =
+    ⊎ ByClient (PollsAt telling means n) v t (with_watches next (slice_set v.watches n (Some new)) v)
+polled_here telling means v client next n watch new t is there how (inr (same, lack, kept)) =
     inl (record {
       told = lack;
       left = inl (as_it_was v next n watch new there kept ∙ ap (λ c. with_client c v) same
           ∙ ap (λ o. record v { client = o }) (sym is));
     })
-polled_here means v client next n watch new t is there (inr (lack, kept)) (inl stays) =
+polled_here telling means v client next n watch new t is there (inr (lack, kept)) (inl stays) =
     inl (record {
       told = lack;
       left = inr (record {
@@ -103,10 +103,10 @@ polled_here means v client next n watch new t is there (inr (lack, kept)) (inl s
         left = as_it_was v next n watch new there kept;
       });
     })
-polled_here means v client next n watch new t is there (inl (reply, answer, refused, told, kept)) (inl stays) =
+polled_here telling means v client next n watch new t is there (inl (reply, answer, refused, told, kept)) (inl stays) =
     let after = with_watches next (slice_set v.watches n (Some new)) v in
-    inr (at_some v.client (absent v.reading) (PollsAt means n) client v t after is
-    (at_some (kept_at v.watches n) fault.NoWatch (λ w. Polls means client n w) watch v t after there (record {
+    inr (at_some v.client (absent v.reading) (PollsAt telling means n) client v t after is
+    (at_some (kept_at v.watches n) fault.NoWatch (λ w. PollsAs telling means client n w) watch v t after there (record {
       reply = reply;
       next = next;
       answer = answer;
@@ -117,13 +117,13 @@ polled_here means v client next n watch new t is there (inl (reply, answer, refu
     })))
 
 -- of a place that is seen so
-pub polled : (means : Meanings) (v b : PlaceState) (client next : ClientState) (n : ℕ) (watch new : Watched) (t : Told)
-    → v ≡ b → v.client ≡ Some client → kept_at v.watches n ≡ Some watch
-    → IsPolled means client next watch new t
+pub polled : (telling : Telling) (means : Meanings) (v b : PlaceState) (client next : ClientState) (n : ℕ)
+    (watch new : Watched) (t : Told) → v ≡ b → v.client ≡ Some client → kept_at v.watches n ≡ Some watch
+    → IsPolled telling means client next watch new t
     → Stays ⊤ client next ⊎ ((next ≡ client) × (t ≡ dry) × (new ≡ watch))
     → Lacks b t (with_watches next (slice_set v.watches n (Some new)) v)
-    ⊎ ByClient (PollsAt means n) b t (with_watches next (slice_set v.watches n (Some new)) v)
-polled means v b client next n watch new t same is there how stays =
+    ⊎ ByClient (PollsAt telling means n) b t (with_watches next (slice_set v.watches n (Some new)) v)
+polled telling means v b client next n watch new t same is there how stays =
     let after = with_watches next (slice_set v.watches n (Some new)) v in
-    subst (λ s. Lacks s t after ⊎ ByClient (PollsAt means n) s t after) same
-    (polled_here means v client next n watch new t is there how stays)
+    subst (λ s. Lacks s t after ⊎ ByClient (PollsAt telling means n) s t after) same
+    (polled_here telling means v client next n watch new t is there how stays)

@@ -2,8 +2,8 @@
 --
 -- A client's own call is made, as `rebase` says it, and its reply is told. Where nobody sits there, or a number names
 -- nothing, that is told, and the place is as it was.
-use Rattle.std.specs.Prelude.{ℕ, ◌≡◌, ◌⊎◌, ⊤, List, drop, Option, Some, None, Result, Ok, Err}
-use Rattle.std.specs.Prelude.{IfErr, IfOk, slice_set}
+use Rattle.std.specs.Prelude.{ℕ, ◌≡◌, ◌⊎◌, ⊤, List, [], drop, Option, Some, None, Result, Ok, Err}
+use Rattle.std.specs.Prelude.{IfErr, IfOk, slice_set, unwrap_or}
 use Rattle.std.specs.FinMap as finite
 use Rattle.group_history.specs.declared.refusals.Refusal.{Refusal}
 use Rattle.group_history.specs.declared.scans.Scan.{Scan}
@@ -27,18 +27,21 @@ use Rattle.rebase.specs.Queries.{asked_at, Asked as Begun}
 use Rattle.rebase.specs.Watching.{Watched, poll_at, watch_after}
 use Rattle.rebase.specs.declared.tickets.Ticket.{Ticket}
 use Rattle.rebase.specs.declared.watching.Polled.{Polled}
+use Rattle.rebase.specs.declared.watching.Polled.TheVariants as polled
+use Rattle.row_changes.specs.declared.changes.RowChange.{RowChange}
+use Rattle.row_changes.specs.Changes.{AreChanges}
 use Rattle.uuid.specs.Text.{hyphenated_text, lower}
 use Rattle.client_desk.specs.declared.calls.Call.{Call}
 use Rattle.client_desk.specs.declared.calls.Call.TheVariants as call
 use Rattle.client_desk.specs.declared.faults.Fault.{Fault}
 use Rattle.client_desk.specs.declared.outcomes.Outcome.{Outcome}
-use Rattle.client_desk.specs.declared.outcomes.Outcome.TheVariants.{Done, Faulty, Number, Refused}
+use Rattle.client_desk.specs.declared.outcomes.Outcome.TheVariants.{Done, Faulty, Nothing, Number, Refused}
 use Rattle.client_desk.specs.declared.faults.Fault.TheVariants as fault
 use Rattle.client_desk.specs.declared.calls.Keep.{Keep}
 use Rattle.client_desk.specs.Kept.{IsKeptAt, IsNumberFor, kept_at, room_for, without}
 use Rattle.client_desk.specs.Places.{PlaceState, client_at, free_place, read_through, sat, unsat, with_client}
 use Rattle.client_desk.specs.Places.{with_reading, with_tickets, with_watches}
-use Rattle.client_desk.specs.Told.{Told, bytes_told, cookie_told, dry, id_told, is_told, pending_told}
+use Rattle.client_desk.specs.Told.{Told, bytes_told, changes_told, cookie_told, dry, id_told, is_told, pending_told}
 use Rattle.client_desk.specs.Told.{polled_told, rows_told, slots_told, tells, told, told_alone, value_told}
 
 -- how often a call begins anew that others are in the way of
@@ -295,17 +298,38 @@ abbrev pub Unwatches : ℕ → Watched → Rule
 Unwatches n kept before t after = (t ≡ told_alone Done)
     × (after ≡ record before { watches = without before.watches n })
 
--- the watch of a number is polled
-pub record Polls (means : Meanings) (client : ClientState) (n : ℕ) (watch : Watched) (before : PlaceState) (t : Told)
-    (after : PlaceState) : Type 0 where
+-- how a poll's reply is told, of the watch as it was
+abbrev pub Telling : Type 1
+Telling = Watched → Result Polled Refusal → Told → Type 0
+
+-- the rows, where they are new
+abbrev pub TellsRows : Telling
+TellsRows watch reply t = t ≡ tells polled_told reply
+
+-- or what changed: from the rows that were told last, of which there are none before the first poll
+abbrev pub TellsChanges : Telling
+TellsChanges watch (Ok (polled.New rows)) t =
+    (changes : List RowChange) × AreChanges (unwrap_or watch.last []) rows changes × (t ≡ changes_told changes)
+TellsChanges watch (Ok polled.Unchanged) t = t ≡ told_alone Nothing
+TellsChanges watch (Err e) t = t ≡ told_alone (Refused e)
+
+-- the watch of a number is polled, and the reply is told so
+pub record PollsAs (telling : Telling) (means : Meanings) (client : ClientState) (n : ℕ) (watch : Watched)
+    (before : PlaceState) (t : Told) (after : PlaceState) : Type 0 where
   pub reply : Result Polled Refusal
   pub next : ClientState
   pub answer : IsLinearized means tries client.seat.mark next.seat.mark reply no_change
       (λ s. Ok (poll_at means watch s))
   pub refused : IfErr reply (IsMissedOrDry ⊤)
   pub stays : Stays ⊤ client next
-  pub told : t ≡ tells polled_told reply
+  pub told : telling watch reply t
   pub left : after ≡ with_watches next (slice_set before.watches n (Some (watch_after watch reply))) before
+
+abbrev pub Polls : Meanings → ClientState → ℕ → Watched → Rule
+Polls = PollsAs TellsRows
+
+abbrev pub PollsChanges : Meanings → ClientState → ℕ → Watched → Rule
+PollsChanges = PollsAs TellsChanges
 
 -- where a number is said under which something is to be kept, what is kept there is given up first
 abbrev pub made_room : Call → PlaceState → PlaceState
@@ -345,5 +369,7 @@ AnswersLooking means (call.Watch keep scan) = ByClient (λ c b. Watches keep sca
     (made_room (call.Watch keep scan) b))
 AnswersLooking means (call.Poll n) = ByClient (λ c b. At (kept_at b.watches n) fault.NoWatch
     (λ watch. Polls means c n watch) b)
+AnswersLooking means (call.PollChanges n) = ByClient (λ c b. At (kept_at b.watches n) fault.NoWatch
+    (λ watch. PollsChanges means c n watch) b)
 AnswersLooking means (call.Unwatch n) = λ b. At (kept_at b.watches n) fault.NoWatch (Unwatches n) b
 AnswersLooking means other = AnswersReading means other

@@ -29,6 +29,7 @@ MayLack call.Cookie = ⊤
 MayLack (call.Begin keep) = ⊤
 MayLack (call.Watch keep scan) = ⊤
 MayLack (call.Poll n) = ⊤
+MayLack (call.PollChanges n) = ⊤
 MayLack other = ⊥
 
 abbrev pub MayLackAsked : Call → Type 0

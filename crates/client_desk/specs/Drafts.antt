@@ -3,7 +3,7 @@
 -- The host reads and writes the run's map, and says how the run ended; then the change goes on: the next run is asked
 -- for, or the change ends, and tells what it tells where the group has all mutators. All else is refused there, but
 -- that the client may leave, which gives the change up.
-use Rattle.std.specs.Prelude.{ℕ, ◌≡◌, ◌⊎◌, ◌+◌, Bool, Result, IfErr, IfOk, ⊤}
+use Rattle.std.specs.Prelude.{ℕ, ◌≡◌, ◌⊎◌, ◌+◌, ◌<◌, Bool, List, length, take, Result, IfErr, IfOk, ⊤}
 use Rattle.std.specs.FinMap as finite
 use Rattle.group_history.specs.declared.refusals.Refusal.{Refusal}
 use Rattle.group_history.specs.declared.changes.Change.{Change}
@@ -15,6 +15,8 @@ use Rattle.group_history.specs.Scans.{rows_of}
 use Rattle.group_history.specs.State.{made}
 use Rattle.commit_graph.specs.Seats.{Seated}
 use Rattle.group_steps.specs.Missing.{IsMissedOrDry}
+use Rattle.pull_patch.specs.declared.writes.Write.{Write}
+use Rattle.pull_patch.specs.Writes.{written}
 use Rattle.rebase.specs.Clients.{ClientState}
 use Rattle.rebase.specs.Replies.{Replied}
 use Rattle.rebase.specs.Running.{EndsCall, EndsPull, UnderWay}
@@ -90,8 +92,17 @@ abbrev pub WritesMap : (Entries → Entries) → UnderWay → Told → UnderWay 
 WritesMap change asking t next = ((t ≡ told_alone outcome.Done) × (next ≡ record asking { map = change asking.map }))
     ⊎ ((e : Refusal) × IsMissedOrDry ⊤ e × (t ≡ told_alone (outcome.Refused e)) × (next ≡ asking))
 
-abbrev pub WritesDraft : (Entries → Entries) → UnderWay → Rule
-WritesDraft change asking before t after = (next : UnderWay) × WritesMap change asking t next
+-- Writes are done on it, the first one first, and nothing else of the change differs; or one is refused, and those
+-- before it are done.
+abbrev pub WritesAll : List Write → UnderWay → Told → UnderWay → Type 0
+WritesAll ws asking t next =
+    ((t ≡ told_alone outcome.Done) × (next ≡ record asking { map = written ws asking.map }))
+    ⊎ ((n : ℕ) × (n < length ws) × (e : Refusal) × IsMissedOrDry ⊤ e × (t ≡ told_alone (outcome.Refused e))
+    × (next ≡ record asking { map = written (take n ws) asking.map }))
+
+-- nothing else of the place differs
+abbrev pub WritesDraft : (UnderWay → Told → UnderWay → Type 0) → UnderWay → Rule
+WritesDraft writes asking before t after = (next : UnderWay) × writes asking t next
     × (after ≡ with_asking next before)
 
 -- ---- the end of a run
@@ -138,8 +149,9 @@ AnswersDraft call.AskedRun = ByRun (λ a. TellsThis (run_told a.mutation))
 AnswersDraft (call.DraftGet key) = ByRun (ReadsDraft value_told (λ m. finite.get m key.now))
 AnswersDraft (call.DraftHas key) = ByRun (ReadsDraft is_told (λ m. finite.contains_key m key.now))
 AnswersDraft (call.DraftScan scan) = ByRun (ReadsDraft rows_told (rows_of scan.now))
-AnswersDraft (call.DraftPut key value) = ByRun (WritesDraft (λ m. finite.insert m key.now value.now))
-AnswersDraft (call.DraftDel key) = ByRun (WritesDraft (λ m. finite.remove m key.now))
+AnswersDraft (call.DraftPut key value) = ByRun (WritesDraft (WritesMap (λ m. finite.insert m key.now value.now)))
+AnswersDraft (call.DraftDel key) = ByRun (WritesDraft (WritesMap (λ m. finite.remove m key.now)))
+AnswersDraft (call.DraftWrites ws) = ByRun (WritesDraft (WritesAll ws.now))
 AnswersDraft other = Tells (outcome.Faulty fault.Asks)
 
 -- and how it ends

@@ -18,6 +18,8 @@ use Rattle.client_desk.specs.declared.outcomes.Outcome.{Outcome}
 use Rattle.client_desk.specs.declared.outcomes.Outcome.TheVariants.{Done, Number, Nothing, Is, Refused}
 use Rattle.push_body.specs.Bodies.{mutation_text}
 use Rattle.push_body.specs.Rows.{array_text, pending_row, row_text}
+use Rattle.row_changes.specs.declared.changes.RowChange.{RowChange}
+use Rattle.row_changes.specs.Texts.{change_text}
 
 -- what a call told: what it came to, and bytes
 pub record Told : Type 0 where
@@ -72,6 +74,10 @@ tells f (Err e) = told_alone (Refused e)
 abbrev pub polled_told : Polled → Told
 polled_told (polled.New rs) = rows_told rs
 polled_told polled.Unchanged = told_alone Nothing
+
+-- or what changed
+abbrev pub changes_told : List RowChange → Told
+changes_told cs = told Done (array_text (map change_text cs))
 
 -- of a mutation: its id
 abbrev pub id_told : ℕ → Told

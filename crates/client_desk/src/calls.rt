@@ -1,5 +1,6 @@
 //! The calls at a place.
 use group_history::{Json, Ran, Scan};
+use pull_patch::Write;
 use rebase::{Mutate, Uuid};
 
 /// Under which number something is kept.
@@ -60,6 +61,8 @@ pub enum Call<'a> {
     Watch(Keep, &'a Scan),
     /// A watch is polled.
     Poll(usize),
+    /// A watch is polled for what changed: each row that is new, gone or has another value.
+    PollChanges(usize),
     /// A watch is given up.
     Unwatch(usize),
     /// Where a change asks for a run: the name of its mutator, and the reason of the run.
@@ -78,6 +81,8 @@ pub enum Call<'a> {
     DraftPut(&'a str, &'a Json),
     /// A key is taken out of it.
     DraftDel(&'a str),
+    /// Puts and dels, in the order of the list, on the run's map. Where one is refused, those before it are written.
+    DraftWrites(&'a [Write]),
     /// The run ended so.
     Ran(Ran),
     /// The change is given up.

@@ -6,7 +6,8 @@ ghost use Rattle.client_desk.specs.declared.faults.Fault.TheVariants as fault;
 ghost use Rattle.client_desk.specs.Answers.{At, ByClient, Lacks};
 ghost use Rattle.client_desk.specs.Calls.{MayAnswer, MayLackAsked};
 ghost use Rattle.client_desk.specs.Drafts.{AnswersAsked, AnswersDraft, AsksToEnd, AsksToMutate, ByRun, GivesUp, GoesOn};
-ghost use Rattle.client_desk.specs.Drafts.{HasRunAsMeant, LeavesAsked, ReadsDraft, TellsThis, WritesDraft};
+ghost use Rattle.client_desk.specs.Drafts.{HasRunAsMeant, LeavesAsked, ReadsDraft, TellsThis, WritesAll, WritesDraft};
+ghost use Rattle.client_desk.specs.Drafts.{WritesMap};
 ghost use Rattle.client_desk.specs.Inside.Sitting.{IsStepAt, IsTakenFrom, Stands};
 ghost use Rattle.client_desk.specs.Kept.{kept_at};
 ghost use Rattle.client_desk.specs.Runs.{IsRunTold};
@@ -16,7 +17,7 @@ ghost use Rattle.client_desk.specs.Told.{value_told};
 use crate::calls::Call;
 use crate::drafts::{
     del_drafted, put_drafted, replied_outcome, tell_args, tell_drafted, tell_drafted_rows,
-    tell_is_drafted, tell_name, tell_run,
+    tell_is_drafted, tell_name, tell_run, write_drafted,
 };
 use crate::faults::Fault;
 use crate::kept::kept_at;
@@ -25,6 +26,7 @@ use crate::outcomes::Outcome;
 use crate::place::{Place, TRIES};
 use crate::sitting::Sitting;
 use group_history::{Json, Ran, Scan};
+use pull_patch::Write;
 use rebase::{Arena, Asked as Step, Mutate};
 
 impl<M: HostRuns> Place<M> {
@@ -150,7 +152,8 @@ impl<M: HostRuns> Place<M> {
     }
 
     fn draft_put(&mut self, key: &str, value: &Json) -> Outcome
-        ensures { ByRun (WritesDraft (λ m. finite.insert m key.now value.now)) self.old (told_alone result) self.new }
+        ensures { ByRun (WritesDraft (WritesMap (λ m. finite.insert m key.now value.now))) self.old
+            (told_alone result) self.new }
     {
         let Sitting::Asking(asking) = &mut self.sitting else {
             return Outcome::Faulty(Fault::NotAsked);
@@ -159,12 +162,22 @@ impl<M: HostRuns> Place<M> {
     }
 
     fn draft_del(&mut self, key: &str) -> Outcome
-        ensures { ByRun (WritesDraft (λ m. finite.remove m key.now)) self.old (told_alone result) self.new }
+        ensures { ByRun (WritesDraft (WritesMap (λ m. finite.remove m key.now))) self.old (told_alone result)
+            self.new }
     {
         let Sitting::Asking(asking) = &mut self.sitting else {
             return Outcome::Faulty(Fault::NotAsked);
         };
         del_drafted(asking, key)
+    }
+
+    fn draft_writes(&mut self, writes: &[Write]) -> Outcome
+        ensures { ByRun (WritesDraft (WritesAll writes.now)) self.old (told_alone result) self.new }
+    {
+        let Sitting::Asking(asking) = &mut self.sitting else {
+            return Outcome::Faulty(Fault::NotAsked);
+        };
+        write_drafted(asking, writes)
     }
 
     // The run that is asked for ended so.
@@ -231,6 +244,7 @@ impl<M: HostRuns> Place<M> {
             Call::DraftScan(range) => self.draft_scan(range, bytes),
             Call::DraftPut(key, value) => self.draft_put(key, value),
             Call::DraftDel(key) => self.draft_del(key),
+            Call::DraftWrites(writes) => self.draft_writes(writes),
             _ => Outcome::Faulty(Fault::Asks),
         }
     }

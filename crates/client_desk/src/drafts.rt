@@ -1,10 +1,11 @@
 //! The run that a change asks for, and the map that it reads and writes.
-ghost use Rattle.std.specs.Prelude.{◌≡◌, []};
+ghost use Rattle.std.specs.Prelude.{◌≡◌, ⊤, [], IfErr, OnErr, OnOk};
 ghost use Rattle.std.specs.FinMap as finite;
 ghost use Rattle.group_history.specs.Scans.{rows_of};
-ghost use Rattle.group_steps.specs.Missing.{map_ok};
+ghost use Rattle.group_steps.specs.Missing.{IsMissedOrDry, map_ok};
+ghost use Rattle.pull_patch.specs.Writes.{wrote};
 ghost use Rattle.rebase.specs.Replies.{reply_seen};
-ghost use Rattle.client_desk.specs.Drafts.{ReadsMap, WritesMap};
+ghost use Rattle.client_desk.specs.Drafts.{ReadsMap, WritesAll, WritesMap};
 ghost use Rattle.client_desk.specs.declared.outcomes.Outcome.TheVariants.{Done, Number};
 ghost use Rattle.client_desk.specs.Told.{bytes_told, is_told, named_told, reason_number, replied_told, rows_told};
 ghost use Rattle.client_desk.specs.Told.{run_told, tells, told, told_alone, value_told};
@@ -14,6 +15,7 @@ use crate::outcomes::Outcome;
 use crate::printing::print_rows;
 use crate::reading::wrote;
 use group_history::{Ended, Json, Means, Mutation, Reason, Refusal, Scan};
+use pull_patch::Write;
 use push_body::mutation_bytes;
 use rebase::{Arena, Asking, Reply};
 use std::alloc::Global;
@@ -138,6 +140,33 @@ pub(crate) fn del_drafted<M: Means + Sync>(asking: &mut Asking<M, Arena<M>>, key
     ensures { WritesMap (λ m. finite.remove m key.now) asking.old (told_alone result) asking.new }
 {
     written(asking.del(key))
+}
+
+// Does a write on the run's map.
+fn do_write<M: Means + Sync>(asking: &mut Asking<M, Arena<M>>, write: &Write) -> Result<(), Refusal>
+    ensures done { OnOk result (asking.new ≡ record asking.old { map = wrote write.now asking.old.map }) }
+    ensures left { OnErr result (asking.new ≡ asking.old) }
+    ensures err { IfErr result (IsMissedOrDry ⊤) }
+{
+    match write {
+        Write::Put(key, value) => asking.put(key.as_str(), value),
+        Write::Del(key) => asking.del(key.as_str()),
+    }
+}
+
+/// Does writes on the run's map, the first one first. Where one is refused, those before it are done.
+pub(crate) fn write_drafted<M: Means + Sync>(
+    asking: &mut Asking<M, Arena<M>>,
+    writes: &[Write],
+) -> Outcome
+    ensures { WritesAll writes.now asking.old (told_alone result) asking.new }
+{
+    for write in writes {
+        if let Err(refusal) = do_write(asking, write) {
+            return Outcome::Refused(refusal);
+        }
+    }
+    Outcome::Done
 }
 
 fn written(reply: Result<(), Refusal>) -> Outcome

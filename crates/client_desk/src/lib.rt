@@ -19,11 +19,12 @@
 //! none is asked for.
 //!
 //! Decisions. Whether a run is asked for comes first: it says which calls there are. Then it is looked who sits there.
-//! A refused call has told no bytes. A poll keeps its rows only once they are told, so a refused one may be made
-//! again. What is kept under a number that a call says is given up before the call is made. A place has a handle on
-//! its group, which is let go with the last of them. A client that leaves takes its tickets and watches along. A place
-//! may have a change that asks for a run, so it can't be dropped: it is closed, by which such a change is given up,
-//! and its seat is answered (`specs/Closing.antt`).
+//! A refused call has told no bytes, and a poll keeps its rows only once they are told, so a refused one may be made
+//! again. What changed is told from the rows that a watch told last, whichever poll that was. Of writes in one call
+//! those before a refused one are written. What is kept under a number that a call says is given up before the call is
+//! made. A place has a handle on its group, which is let go with the last of them. A client that leaves takes its
+//! tickets and watches along. A place may have a change that asks for a run, so it can't be dropped: it is closed, by
+//! which such a change is given up, and its seat is answered (`specs/Closing.antt`).
 #![tactic(auto)]
 
 mod calls;
@@ -50,4 +51,5 @@ pub use faults::Fault;
 pub use mutators::{HostRuns, Hosted, Whole};
 pub use outcomes::Outcome;
 pub use place::Place;
+pub use pull_patch::Write;
 pub use rebase::Mutate;

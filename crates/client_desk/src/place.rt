@@ -5,9 +5,10 @@ ghost use Rattle.commit_graph.specs.Seats.{IsSeatOf};
 ghost use Rattle.client_desk.specs.declared.calls.Call.TheVariants as kind;
 ghost use Rattle.client_desk.specs.declared.faults.Fault.TheVariants as fault;
 ghost use Rattle.client_desk.specs.Answers.{AnswersLooking, At, Begins, ByAny, ByClient, CountsFree, Forgets, Lacks};
-ghost use Rattle.client_desk.specs.Answers.{Leaves, Polls, Refreshes, Sits, Unwatches, Watches, made_room};
+ghost use Rattle.client_desk.specs.Answers.{Leaves, PollsAs, Refreshes, Sits, Unwatches, Watches, made_room};
 ghost use Rattle.client_desk.specs.Calls.{MayLack};
 ghost use Rattle.client_desk.specs.Closing.{Closes};
+ghost use Rattle.client_desk.specs.Inside.Keeping.{telling_of};
 ghost use Rattle.client_desk.specs.Inside.Sitting.{CanSit, IsAt, IsLeft, IsTaken, IsTakenFrom, with_sitting};
 ghost use Rattle.client_desk.specs.Kept.{kept_at};
 ghost use Rattle.client_desk.specs.Places.{free_place};
@@ -21,7 +22,7 @@ use crate::outcomes::{Outcome, id_outcome};
 use crate::reading::tell_slots;
 use crate::sitting::Sitting;
 use crate::tickets::keep_reply;
-use crate::watches::{keep_watch, poll_watch};
+use crate::watches::{Tells, keep_watch, poll_watch};
 use group_history::{Refusal, Scan};
 use rebase::{Arena, Client, Group, Seat, Ticket, Uuid, Watch};
 use std::alloc::Global;
@@ -251,10 +252,11 @@ impl<M: Hosted + Sync> Place<M> {
         }
     }
 
-    fn poll(&mut self, number: usize, bytes: &mut Vec<u8>) -> Outcome
+    fn poll(&mut self, number: usize, tells: Tells, bytes: &mut Vec<u8>) -> Outcome
         requires { bytes.old.items ≡ [] }
         ensures { Lacks self.old (told result bytes.new.items) self.new
-            ⊎ ByClient (λ c b. At (kept_at b.watches number) fault.NoWatch (λ watch. Polls M.means c number watch) b)
+            ⊎ ByClient (λ c b. At (kept_at b.watches number) fault.NoWatch
+            (λ watch. PollsAs (telling_of tells) M.means c number watch) b)
             self.old (told result bytes.new.items) self.new }
     {
         let Sitting::Client(client) = &mut self.sitting else {
@@ -265,7 +267,7 @@ impl<M: Hosted + Sync> Place<M> {
         }
         match &mut self.watches[number] {
             Some(watch) => {
-                return poll_watch(client, watch, bytes);
+                return poll_watch(client, watch, tells, bytes);
             }
             None => {
                 return Outcome::Faulty(Fault::NoWatch);
@@ -299,7 +301,8 @@ impl<M: Hosted + Sync> Place<M> {
             Call::Begin(keep) => self.begin(keep, bytes),
             Call::Forget(number) => self.forget(number),
             Call::Watch(keep, scan) => self.watch(keep, scan),
-            Call::Poll(number) => self.poll(number, bytes),
+            Call::Poll(number) => self.poll(number, Tells::Rows, bytes),
+            Call::PollChanges(number) => self.poll(number, Tells::Changes, bytes),
             Call::Unwatch(number) => self.unwatch(number),
             other => self.call_reading(other, bytes),
         }

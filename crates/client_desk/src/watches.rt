@@ -1,28 +1,93 @@
 //! Watches that are polled.
-ghost use Rattle.std.specs.Prelude.{◌≡◌, ◌⊎◌, ⊤, [], IfErr, IfOk};
+ghost use Rattle.std.specs.Prelude.{◌≡◌, ◌⊎◌, ⊤, T, [], IfErr, IfOk, OnOk, unwrap_or};
+ghost use Rattle.group_history.specs.Rows.{Rows, keys_of, rises};
 ghost use Rattle.rebase.specs.Clients.{Stays};
-ghost use Rattle.client_desk.specs.Told.{dry, polled_told, tells, told, told_alone};
-ghost use Rattle.client_desk.specs.Inside.Keeping.{IsPolled, KeepsWatch};
+ghost use Rattle.rebase.specs.Watching.{watch_after};
+ghost use Rattle.rebase.specs.declared.watching.Polled.TheVariants as polled;
+ghost use Rattle.client_desk.specs.Answers.{TellsChanges};
+ghost use Rattle.client_desk.specs.declared.outcomes.Outcome.TheVariants.{Done};
+ghost use Rattle.client_desk.specs.Told.{dry, told, told_alone};
+ghost use Rattle.client_desk.specs.Inside.Keeping.{IsPolled, KeepsWatch, telling_of};
 
 use crate::calls::Keep;
 use crate::kept::keep;
 use crate::outcomes::Outcome;
 use crate::place::TRIES;
 use crate::printing::print_rows;
-use group_history::{Means, Refusal};
+use group_history::{Json, Means, Refusal, Text};
 use rebase::{Arena, Client, Polled, Watch};
+use row_changes::{changes_of, print_changes};
 use std::alloc::AllocError;
 use std::mem::replace;
 
-// Tells what was polled; nothing where memory is refused.
-fn tell_polled(reply: Result<Polled, Refusal>, bytes: &mut Vec<u8>) -> Result<Outcome, AllocError>
+/// What a poll tells where rows are new.
+#[derive(Clone, Copy)]
+pub(crate) enum Tells {
+    /// The rows.
+    Rows,
+    /// What changed from those that were told last.
+    Changes,
+}
+
+// The rows that a watch told last; none before the first poll.
+fn last_rows<M: Means>(watch: &Watch<M>) -> &[(Text, Json)]
+    ensures last { result.now ≡ unwrap_or watch.now.last [] }
+    ensures rising { T (rises (keys_of result.now)) }
+{
+    match watch.rows() {
+        Some(rows) => rows.as_slice(),
+        None => &[],
+    }
+}
+
+// Writes what changed from the rows that a watch told last to those that its copy told since.
+fn print_changed<M: Means>(
+    old: &Watch<M>,
+    new: &Watch<M>,
+    bytes: &mut Vec<u8>,
+) -> Result<(), AllocError>
     requires { bytes.old.items ≡ [] }
-    ensures told { IfOk result (λ outcome. told outcome bytes.new.items ≡ tells polled_told reply) }
+    ensures { (rows : Rows) → new.now.last ≡ Some rows
+        → OnOk result (TellsChanges old.now (Ok (polled.New rows)) (told Done bytes.new.items)) }
+{
+    let alloc = bytes.allocator().clone()?;
+    let changes = changes_of(alloc, last_rows(old), last_rows(new))?;
+    print_changes(&changes, bytes)
+}
+
+// Writes what is told of the rows that a watch's copy told since.
+fn print_new<M: Means>(
+    tells: Tells,
+    old: &Watch<M>,
+    new: &Watch<M>,
+    bytes: &mut Vec<u8>,
+) -> Result<(), AllocError>
+    requires { bytes.old.items ≡ [] }
+    ensures { (rows : Rows) → new.now.last ≡ Some rows
+        → OnOk result (telling_of tells old.now (Ok (polled.New rows)) (told Done bytes.new.items)) }
+{
+    match tells {
+        Tells::Rows => print_rows(last_rows(new), bytes),
+        Tells::Changes => print_changed(old, new, bytes),
+    }
+}
+
+// Tells what a watch's copy was polled for; nothing where memory is refused.
+fn tell_polled<M: Means>(
+    tells: Tells,
+    old: &Watch<M>,
+    new: &Watch<M>,
+    reply: Result<Polled, Refusal>,
+    bytes: &mut Vec<u8>,
+) -> Result<Outcome, AllocError>
+    requires kept { new.now ≡ watch_after old.now reply }
+    requires empty { bytes.old.items ≡ [] }
+    ensures told { IfOk result (λ outcome. telling_of tells old.now reply (told outcome bytes.new.items)) }
     ensures lack { IfErr result (λ _. bytes.new.items ≡ []) }
 {
     match reply {
-        Ok(Polled::New(rows)) => {
-            if let Err(e) = print_rows(rows.as_slice(), bytes) {
+        Ok(Polled::New(_)) => {
+            if let Err(e) = print_new(tells, old, new, bytes) {
                 bytes.clear();
                 return Err(e);
             }
@@ -38,17 +103,19 @@ fn poll_copy<M: Means + Sync>(
     client: &mut Client<M, Arena<M>>,
     watch: &mut Watch<M>,
     copy: Watch<M>,
+    tells: Tells,
     bytes: &mut Vec<u8>,
 ) -> Outcome
     requires book { watch.old.book ≡ client.old.seat.mark.book }
     requires copy { copy ≡ watch.old }
     requires empty { bytes.old.items ≡ [] }
-    ensures polled { IsPolled M.means client.old client.new watch.old watch.new (told result bytes.new.items) }
+    ensures polled { IsPolled (telling_of tells) M.means client.old client.new watch.old watch.new
+        (told result bytes.new.items) }
     ensures looked { Stays ⊤ client.old client.new }
 {
     let mut copy = copy;
     let reply = client.poll(&mut copy, TRIES);
-    match tell_polled(reply, bytes) {
+    match tell_polled(tells, watch, &copy, reply, bytes) {
         Ok(outcome) => {
             drop(replace(watch, copy));
             outcome
@@ -64,16 +131,18 @@ fn poll_copy<M: Means + Sync>(
 pub(crate) fn poll_watch<M: Means + Sync>(
     client: &mut Client<M, Arena<M>>,
     watch: &mut Watch<M>,
+    tells: Tells,
     bytes: &mut Vec<u8>,
 ) -> Outcome
     requires book { watch.old.book ≡ client.old.seat.mark.book }
     requires empty { bytes.old.items ≡ [] }
-    ensures polled { IsPolled M.means client.old client.new watch.old watch.new (told result bytes.new.items) }
+    ensures polled { IsPolled (telling_of tells) M.means client.old client.new watch.old watch.new
+        (told result bytes.new.items) }
     ensures looked { Stays ⊤ client.old client.new
         ⊎ ((client.new ≡ client.old) × (told result bytes.new.items ≡ dry) × (watch.new ≡ watch.old)) }
 {
     match watch.clone() {
-        Ok(copy) => poll_copy(client, watch, copy, bytes),
+        Ok(copy) => poll_copy(client, watch, copy, tells, bytes),
         Err(_) => Outcome::Refused(Refusal::NoMemory),
     }
 }

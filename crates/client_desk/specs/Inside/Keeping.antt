@@ -12,9 +12,11 @@ use Rattle.rebase.specs.declared.watching.Polled.{Polled}
 use Rattle.rebase.specs.Watching.{Watched, poll_at, watch_after}
 use Rattle.client_desk.specs.declared.calls.Keep.{Keep}
 use Rattle.client_desk.specs.declared.outcomes.Outcome.TheVariants.{Number, Refused}
-use Rattle.client_desk.specs.Answers.{tries}
+use Rattle.client_desk.specs.declared.watches.Tells.{Tells}
+use Rattle.client_desk.specs.declared.watches.Tells.TheVariants as tells
+use Rattle.client_desk.specs.Answers.{Telling, TellsChanges, TellsRows, tries}
 use Rattle.client_desk.specs.Kept.{IsKeptAt, IsNumberFor, kept_at, without}
-use Rattle.client_desk.specs.Told.{Told, dry, polled_told, tells, told, told_alone}
+use Rattle.client_desk.specs.Told.{Told, dry, told, told_alone}
 
 -- something is kept, under the number that is said or the first free one
 pub record KeepsAt {X : Type 0} (keep : Keep) (number : ℕ) (x : X) (old new : List (Option X)) : Type 0 where
@@ -46,11 +48,17 @@ abbrev pub KeepsWatch : Keep → Watched → Told → List (Option Watched) → 
 KeepsWatch keep watch t old new = ((number : ℕ) × (t ≡ told_alone (Number number)) × KeepsAt keep number watch old new)
     ⊎ ((t ≡ dry) × (new ≡ old))
 
--- how a watch was polled: it has the rows that are told; or memory was refused, and it is as it was
-abbrev pub IsPolled : Meanings → ClientState → ClientState → Watched → Watched → Told → Type 0
-IsPolled means client next watch new t = ((reply : Result Polled Refusal)
+-- how a reply is told
+abbrev pub telling_of : Tells → Telling
+telling_of tells.Rows = TellsRows
+telling_of tells.Changes = TellsChanges
+
+-- how a watch was polled: its reply is told so, and it has the rows that are new; or memory was refused, and it is as
+-- it was
+abbrev pub IsPolled : Telling → Meanings → ClientState → ClientState → Watched → Watched → Told → Type 0
+IsPolled telling means client next watch new t = ((reply : Result Polled Refusal)
     × IsLinearized means tries client.seat.mark next.seat.mark reply no_change (λ s. Ok (poll_at means watch s))
-    × IfErr reply (IsMissedOrDry ⊤) × (t ≡ tells polled_told reply) × (new ≡ watch_after watch reply))
+    × IfErr reply (IsMissedOrDry ⊤) × telling watch reply t × (new ≡ watch_after watch reply))
     ⊎ ((t ≡ dry) × (new ≡ watch))
 
 -- each watch that is kept is of this book

@@ -12,3 +12,8 @@ pub returns-in-DraftDel : goal.returns-in-DraftDel
 returns-in-DraftDel g c =
     inr (subst (λ bytes. AnswersDraft c.args.call c.args.self.now (told c.draft_del.result bytes) c.draft_del.new.self)
     (sym c.requires) (rw c.in-DraftDel.is c.draft_del.ensures))
+
+pub returns-in-DraftWrites : goal.returns-in-DraftWrites
+returns-in-DraftWrites g c =
+    inr (subst (λ bytes. AnswersDraft c.args.call c.args.self.now (told c.draft_writes.result bytes)
+    c.draft_writes.new.self) (sym c.requires) (rw c.in-DraftWrites.is c.draft_writes.ensures))
