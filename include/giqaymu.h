@@ -20,9 +20,9 @@
  *
  * Of two refusals. Where a call has several, the first of these is returned: GIQ_NO_PLACE; what its bytes and numbers
  * say, one parameter after the other, a response not among them: GIQ_NOT_UTF8, GIQ_BAD_UUID, GIQ_NOT_JSON,
- * GIQ_NOT_WHOLE, GIQ_OUT_OF_RANGE; GIQ_ASKS or GIQ_NOT_ASKED; GIQ_READS, GIQ_NOT_READ, GIQ_IN_USE or GIQ_NO_CLIENT;
- * GIQ_NO_TICKET or GIQ_NO_WATCH; and then what the group answers, which reads a response (docs/RECORD.md has its
- * order). GIQ_NO_MEMORY may come in the place of any of them but the first.
+ * GIQ_BAD_SHAPE, GIQ_NOT_WHOLE, GIQ_OUT_OF_RANGE; GIQ_ASKS or GIQ_NOT_ASKED; GIQ_READS, GIQ_NOT_READ, GIQ_IN_USE or
+ * GIQ_NO_CLIENT; GIQ_NO_TICKET or GIQ_NO_WATCH; and then what the group answers, which reads a response (docs/RECORD.md
+ * has its order). GIQ_NO_MEMORY may come in the place of any of them but the first.
  *
  * Readings. From giq_begin_read to giq_end_read the queries of a place are answered as of one moment, which is a moment
  * of giq_begin_read: giq_get, giq_has, giq_scan, giq_pulled_get, giq_pulled_scan, giq_pending, giq_cookie, giq_closed,
@@ -33,7 +33,7 @@
  * Mutators. A group runs its rules itself, and without own_mutators those of scripts. With own_mutators each name that
  * has no rule is a mutator of the program's own: a mutation of one, and an end of a pull where such a mutation stays
  * pending, answer GIQ_ASKED. The program runs the mutator on the run's map, by the calls giq_asked_name to
- * giq_draft_del, and says with giq_ran how that ended; giq_ran answers GIQ_ASKED for the next run that the group
+ * giq_draft_writes, and says with giq_ran how that ended; giq_ran answers GIQ_ASKED for the next run that the group
  * doesn't make itself, or what the change came to. Until then each other call of the place is refused with GIQ_ASKS,
  * but that the client may leave and the place be closed: then, and by giq_give_up, the change is given up, and nothing
  * was changed. As long as a run is asked for, the slots that other clients let go are kept from use, so a long run can
@@ -171,7 +171,7 @@ enum giq_number {
 };
 
 /* The version of this header: major * 10000 + minor * 100 + patch. */
-#define GIQ_VERSION 10100
+#define GIQ_VERSION 10200
 
 /* This bit of what giq_version answers says that the library was built without its proof. */
 #define GIQ_UNPROVED 0x80000000
@@ -222,7 +222,9 @@ enum giq_what {
     GIQ_CALL_PULLED_GET = 29,
     GIQ_CALL_PULLED_SCAN = 30,
     GIQ_CALL_UNWATCH = 31,
-    GIQ_CALL_ASKED_RUN = 32
+    GIQ_CALL_ASKED_RUN = 32,
+    GIQ_CALL_POLL_CHANGES = 33,
+    GIQ_CALL_DRAFT_WRITES = 34
 };
 
 #define GIQ_NO_LIMIT UINT64_MAX
@@ -529,6 +531,14 @@ static inline int32_t giq_poll(giq_place *place, uint32_t watch, giq_answer *ans
     return giq_ask(place, GIQ_CALL_POLL, watch, 0, giq_nothing(), giq_nothing(), answer);
 }
 
+/* What changed in the rows of a watch since they were told last, by giq_poll or by this: a JSON array of objects in the
+ * order of their keys' bytes, {"key":..,"newValue":..,"oldValue":..,"op":..}. `op` is "add", "del" or "change"; a row
+ * that was added has no old value, one that was taken out no new one. The first time each row is added. GIQ_NONE where
+ * nothing changed. Refused: as giq_poll. */
+static inline int32_t giq_poll_changes(giq_place *place, uint32_t watch, giq_answer *answer) {
+    return giq_ask(place, GIQ_CALL_POLL_CHANGES, watch, 0, giq_nothing(), giq_nothing(), answer);
+}
+
 /* Gives a watch up, and the rows that it keeps. Its number may be given again. Refused: GIQ_NO_WATCH. */
 static inline int32_t giq_unwatch(giq_place *place, uint32_t watch, giq_answer *answer) {
     return giq_ask(place, GIQ_CALL_UNWATCH, watch, 0, giq_nothing(), giq_nothing(), answer);
@@ -624,6 +634,15 @@ static inline int32_t giq_draft_put(giq_place *place, giq_bytes key, giq_bytes v
 /* Takes the key out of the run's map, whether or not it was there. Refused: as giq_draft_get. */
 static inline int32_t giq_draft_del(giq_place *place, giq_bytes key, giq_answer *answer) {
     return giq_ask(place, GIQ_CALL_DRAFT_DEL, 0, 0, key, giq_nothing(), answer);
+}
+
+/* Puts values and takes keys out in the run's map, as many as `writes` says, a JSON array of operations as in the patch
+ * of a pull, {"op":"put","key":..,"value":..} and {"op":"del","key":..}: in their order, each as giq_draft_put and
+ * giq_draft_del do it. Refused, and then none is done: GIQ_NOT_JSON, also where it nests deeper than 126,
+ * GIQ_BAD_SHAPE, GIQ_NOT_WHOLE. Refused, and then the first ones may be done, so do all of them again or end the run:
+ * GIQ_NO_MEMORY, GIQ_BUSY, GIQ_GONE. */
+static inline int32_t giq_draft_writes(giq_place *place, giq_bytes writes, giq_answer *answer) {
+    return giq_ask(place, GIQ_CALL_DRAFT_WRITES, 0, 0, writes, giq_nothing(), answer);
 }
 
 /* Says how the run ended, by an enum giq_ending, and the code where it refused. GIQ_ASKED: the next run is asked for.

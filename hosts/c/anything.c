@@ -9,8 +9,9 @@
 #include <stdio.h>
 #include <stdlib.h>
 
-/* Places; pieces, and which of them are names of mutators, arguments, IDs, responses and rules; the room for one. */
-enum { PLACES = 3, NAMES = 3, ARGS = 8, IDS = 12, RESPONSES = 15, RULES = 21, PIECES = 24, ROOM = 512 };
+/* Places; pieces, and which of them are names of mutators, arguments, IDs, responses, rules and writes; the room for
+ * one. */
+enum { PLACES = 3, NAMES = 3, ARGS = 8, IDS = 12, RESPONSES = 15, RULES = 21, WRITES = 23, PIECES = 26, ROOM = 512 };
 
 /* What calls are given, whole or damaged. */
 static const char *const pieces[PIECES] = {
@@ -37,6 +38,8 @@ static const char *const pieces[PIECES] = {
     "{\"error\":\"VersionNotSupported\",\"versionType\":\"pull\"}",
     "{\"add\":[[\"put\",[\"cat\",\"todo/\",[\"arg\",\"id\"]],[\"arg\",\"text\"]]]}",
     "{\"fly\":[[\"need\",[\"has\",\"n\"],77]]}",
+    "[{\"op\":\"put\",\"key\":\"n\",\"value\":5},{\"op\":\"del\",\"key\":\"t\"}]",
+    "[{\"op\":\"del\",\"key\":\"n\"},{\"op\":\"put\",\"key\":\"t\",\"value\":[0.5]}]",
     "\xc3\xa9\xff"};
 
 static uint64_t state, refused;
@@ -92,6 +95,8 @@ static giq_bytes fitting(uint8_t *room, uint32_t what) {
         return given(room, RESPONSES, RULES);
     case GIQ_CALL_MUTATE:
         return given(room, NAMES, ARGS);
+    case GIQ_CALL_DRAFT_WRITES:
+        return given(room, WRITES, PIECES - 1);
     default:
         return given(room, 0, NAMES);
     }
@@ -161,9 +166,14 @@ static int takes_none(uint32_t what) {
            what == GIQ_CALL_UNWATCH;
 }
 
+/* These are some of the calls that a reading refuses. */
+static int is_refused_in_readings(uint32_t what) {
+    return what == GIQ_CALL_MUTATE || what == GIQ_CALL_POLL || what == GIQ_CALL_POLL_CHANGES;
+}
+
 /* What a call says of readings and moments. */
 static void check_reads(giq_place *place, int at, uint32_t what, int32_t returned, const giq_answer *answer) {
-    if (reads[at] && returned >= 0 && (what == GIQ_CALL_MUTATE || what == GIQ_CALL_POLL)) fail("reads", (long)what);
+    if (reads[at] && returned >= 0 && is_refused_in_readings(what)) fail("reads", (long)what);
     if (returned == GIQ_NO_MEMORY && takes_none(what)) fail("memory", (long)what);
     if (returned == GIQ_READS && !reads[at]) fail("no reading", (long)what);
     if (returned == GIQ_NOT_READ && reads[at]) fail("a reading", (long)what);
@@ -197,7 +207,7 @@ static void open_any(giq_place *places) {
     opening.profile = given(rooms[1], 0, NAMES);
     opening.schema = given(rooms[2], 0, NAMES);
     opening.own_mutators = below(2) == 0 ? 0 : (below(20) == 0 ? (uint32_t)number() : 1);
-    opening.rules = below(2) == 0 ? given(rooms[3], RULES, PIECES - 1) : giq_nothing();
+    opening.rules = below(2) == 0 ? given(rooms[3], RULES, WRITES) : giq_nothing();
     opening.slots = below(4) == 0 ? (uint32_t)number() % GIQ_MAX_PLACES : 16 + (uint32_t)below(64);
     returned = giq_open_places(&opening, places, PLACES);
     if (opening.own_mutators < 2) check_rules(opening.rules, returned);
@@ -219,7 +229,7 @@ static int call_any(giq_place *places) {
     static uint8_t rooms[2][ROOM];
     const int at = (int)below(PLACES);
     giq_place *place = &places[at];
-    uint32_t what = below(50) == 0 ? (uint32_t)number() : (uint32_t)below(GIQ_CALL_ASKED_RUN + 2);
+    uint32_t what = below(50) == 0 ? (uint32_t)number() : (uint32_t)below(GIQ_CALL_DRAFT_WRITES + 2);
     uint32_t m = (uint32_t)number();
     giq_answer answer;
     int32_t returned;

@@ -1,5 +1,5 @@
 /* Mutators of the program's own: each step of a run, a rebase, others that are first, changes that are given up, and
- * the numbers of tickets. */
+ * the numbers of tickets; and what changed in the rows of a watch. */
 #include "giqaymu.h"
 
 #include <stdio.h>
@@ -75,11 +75,32 @@ static void open_group(giq_place *places, giq_bytes rules) {
     IS(giq_sit(&places[1], giq_text(BERT), &answer), GIQ_OK);
 }
 
+static int32_t write_all(giq_place *place, const char *writes) {
+    return giq_draft_writes(place, giq_text(writes), &answer);
+}
+
+/* Puts and dels in one call: all of them, or none where what they say is refused. */
+static void writes(giq_place *place) {
+    IS(write_all(place, "[{\"op\":\"put\",\"key\":\"d\",\"value\":1},{\"op\":\"put\",\"key\":\"c\",\"value\": [ 3 ]},"
+                        "{\"key\":\"d\",\"op\":\"del\"},{\"op\":\"del\",\"key\":\"none\"}]"), GIQ_OK);
+    TELLS("");
+    IS(write_all(place, "[{\"op\":\"del\",\"key\":\"c\"},{\"op\":\"put\",\"key\":\"d\",\"value\":0.5}]"),
+       GIQ_NOT_WHOLE);
+    IS(write_all(place, "[{\"op\":\"put\",\"key\":\"d\",\"value\":0.5},{\"op\":\"clear\"}]"), GIQ_BAD_SHAPE);
+    IS(write_all(place, "[{\"op\":\"del\",\"key\":\"c\"}"), GIQ_NOT_JSON);
+    IS(giq_draft_scan(place, giq_rows(giq_nothing()), &answer), GIQ_OK);
+    TELLS("[[\"b\",[2,\"x\"]],[\"c\",[3]]]");
+    IS(write_all(place, "[{\"op\":\"del\",\"key\":\"c\"}]"), GIQ_OK);
+    IS(write_all(place, "[]"), GIQ_OK);
+}
+
 /* Each call of a run, and what is refused meanwhile. */
 static void steps(giq_place *place) {
     IS(giq_asked_name(place, &answer), GIQ_NOT_ASKED);
     IS(giq_asked_run(place, &answer), GIQ_NOT_ASKED);
     IS(giq_draft_put(place, giq_text("a"), giq_text("1"), &answer), GIQ_NOT_ASKED);
+    IS(giq_draft_writes(place, giq_text("[]"), &answer), GIQ_NOT_ASKED);
+    IS(giq_draft_writes(place, giq_text("{}"), &answer), GIQ_BAD_SHAPE);
     IS(giq_ran(place, GIQ_RAN, 0, &answer), GIQ_NOT_ASKED);
     IS(giq_give_up(place, &answer), GIQ_NOT_ASKED);
     IS(mutate(place, "mark", "[ 1 ]"), GIQ_ASKED);
@@ -96,6 +117,7 @@ static void steps(giq_place *place) {
     IS(giq_begin_read(place, &answer), GIQ_ASKS);
     IS(giq_end_read(place, &answer), GIQ_ASKS);
     IS(giq_moment(place, &answer), GIQ_ASKS);
+    IS(giq_poll_changes(place, 0, &answer), GIQ_ASKS);
     IS(giq_unwatch(place, 0, &answer), GIQ_ASKS);
     IS(mutate(place, "mark", "1"), GIQ_ASKS);
     IS(giq_sit(place, giq_text(BERT), &answer), GIQ_ASKS);
@@ -112,6 +134,7 @@ static void steps(giq_place *place) {
     TELLS("1");
     IS(giq_draft_del(place, giq_text("a"), &answer), GIQ_OK);
     IS(giq_draft_del(place, giq_text("a"), &answer), GIQ_OK);
+    writes(place);
     IS(giq_draft_scan(place, giq_rows(giq_nothing()), &answer), GIQ_OK);
     TELLS("[[\"b\",[2,\"x\"]]]");
     IS(giq_ran(place, 3, 0, &answer), GIQ_OUT_OF_RANGE);
@@ -184,6 +207,29 @@ static void rebase(giq_place *anna, giq_place *bert) {
     TELLS("[[\"" BERT "\",1,\"m\"],[\"" ANNA "\",3,\"n\"],[\"" BERT "\",2,\"k\"]]");
 }
 
+/* What changed in the rows of a watch: each row at first, then the differences from what was told last, by either poll.
+ */
+static void changes(giq_place *place) {
+    uint32_t watch;
+    IS(giq_watch(place, giq_rows(giq_text("n")), &answer), GIQ_OK);
+    watch = (uint32_t)answer.number;
+    IS(giq_poll_changes(place, watch, &answer), GIQ_OK);
+    TELLS("[{\"key\":\"n\",\"newValue\":[0,3,5],\"op\":\"add\"}]");
+    IS(giq_poll_changes(place, watch, &answer), GIQ_NONE);
+    IS(run(place, mutate(place, "n", "6")), GIQ_OK);
+    IS(run(place, mutate(place, "m", "7")), GIQ_OK);
+    IS(giq_poll_changes(place, watch, &answer), GIQ_OK);
+    TELLS("[{\"key\":\"n\",\"newValue\":[0,3,5,6],\"oldValue\":[0,3,5],\"op\":\"change\"}]");
+    IS(giq_poll(place, watch, &answer), GIQ_NONE);
+    IS(mutate(place, "n", "null"), GIQ_ASKED);
+    IS(giq_draft_del(place, giq_text("n"), &answer), GIQ_OK);
+    IS(giq_ran(place, GIQ_RAN, 0, &answer), GIQ_OK);
+    IS(giq_poll_changes(place, watch, &answer), GIQ_OK);
+    TELLS("[{\"key\":\"n\",\"oldValue\":[0,3,5,6],\"op\":\"del\"}]");
+    IS(giq_unwatch(place, watch, &answer), GIQ_OK);
+    IS(giq_poll_changes(place, watch, &answer), GIQ_NO_WATCH);
+}
+
 /* Tickets have numbers from 0 on; the number of one that was given up is given again. */
 static void tickets(giq_place *place) {
     IS(giq_begin_pull(place, &answer), GIQ_OK);
@@ -243,6 +289,7 @@ int main(void) {
     giq_close(&places[1]);
     IS(giq_ran(&places[1], GIQ_RAN, 0, &answer), GIQ_NO_PLACE);
     IS(run(&places[0], mutate(&places[0], "n", "5")), GIQ_OK);
+    changes(&places[0]);
     giq_close(&places[0]);
     beside_rules();
     return EXIT_SUCCESS;

@@ -165,6 +165,7 @@ static void ends(giq_place *reader, giq_place *writer) {
     refused("begin", giq_begin_read(reader, &answer), GIQ_READS);
     refused("put", giq_mutate(reader, giq_text("put"), giq_text("[\"left\",3]"), 1, &answer), GIQ_READS);
     refused("poll", giq_poll(reader, watch, &answer), GIQ_READS);
+    refused("poll changes", giq_poll_changes(reader, watch, &answer), GIQ_READS);
     refused("end", giq_end_pull(reader, ticket, giq_text(FIRST), &answer), GIQ_READS);
     refused("sit", giq_sit(reader, giq_text(CLIENTS[0]), &answer), GIQ_IN_USE);
     refused("ran", giq_ran(reader, GIQ_RAN, 0, &answer), GIQ_NOT_ASKED);

@@ -15,7 +15,7 @@ use std::alloc::Global;
 
 /// The version of the library: major * 10,000 + minor * 100 + patch. With 0x8000_0000 added it says that it was built
 /// without its proof.
-pub const VERSION: u32 = 10100;
+pub const VERSION: u32 = 10200;
 
 /// What a call answers beside its number: bytes that lie there until the place's next call, a number and a code.
 #[repr(C)]

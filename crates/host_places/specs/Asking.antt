@@ -1,5 +1,6 @@
 -- What the bytes and numbers of a host say.
-use Rattle.std.specs.Prelude.{ℕ, ◌≡◌, ◌⊎◌, ◌-◌, ◌^◌, ◌==◌, nat_le, if◌then◌else◌, Option, Some, None, Result, Ok, Err}
+use Rattle.std.specs.Prelude.{ℕ, ◌≡◌, ◌⊎◌, ◌-◌, ◌^◌, ◌==◌, nat_le, if◌then◌else◌, List, Option, Some, None, Result}
+use Rattle.std.specs.Prelude.{Ok, Err}
 use Rattle.std.specs.Str.{is_utf8}
 use Rattle.uuid.specs.Text.{parsed}
 use Rattle.group_history.specs.declared.mutators.Ran.{Ran}
@@ -11,6 +12,8 @@ use Rattle.group_history.specs.declared.scans.Start.{Start}
 use Rattle.group_history.specs.declared.scans.Start.TheVariants.{Any, At, After}
 use Rattle.group_history.specs.Json.{json_text}
 use Rattle.group_history.specs.Map.{Bytes}
+use Rattle.pull_patch.specs.declared.writes.Write.{Write}
+use Rattle.pull_patch.specs.Writes.{writes_in}
 use Rattle.client_desk.specs.declared.outcomes.Outcome.{Outcome}
 use Rattle.client_desk.specs.declared.outcomes.Outcome.TheVariants.{Faulty, Refused}
 use Rattle.client_desk.specs.declared.faults.Fault.TheVariants.{BadUuid, NotUtf8, OutOfRange}
@@ -79,6 +82,10 @@ named_said name args = text_said name >>= (λ n. json_said args >>= (λ json. Ok
 -- a key and a value for it
 abbrev pub put_said : Bytes → Bytes → Result (Bytes × Bytes) Outcome
 put_said key value = text_said key >>= (λ k. json_said value >>= (λ json. Ok (k, json)))
+
+-- writes, with the refusals of a list of writes
+abbrev pub writes_said : Bytes → Result (List Write) Outcome
+writes_said bytes = or_refused (writes_in bytes)
 
 -- how a run ended: 0 done, 1 refused with a code, which has 32 bits, 2 unknown
 abbrev pub code_said : ℕ → Result Ran Outcome

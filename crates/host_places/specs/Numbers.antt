@@ -15,7 +15,7 @@ use Rattle.client_desk.specs.Answers.{Rule, Tells}
 use Rattle.client_desk.specs.Calls.{MayAnswer}
 use Rattle.client_desk.specs.Runs.{IsRunTold}
 use Rattle.host_places.specs.declared.numbered.Numbered.{Numbered}
-use Rattle.host_places.specs.Asking.{named_said, put_said, ran_said, scan_said, text_said, uuid_said}
+use Rattle.host_places.specs.Asking.{named_said, put_said, ran_said, scan_said, text_said, uuid_said, writes_said}
 
 -- The numbers of a call: which one it is, then what it is given. What it doesn't use is not looked at.
 abbrev pub IsCall : Call → ℕ → ℕ → ℕ → Bytes → Bytes → Type 0
@@ -52,6 +52,8 @@ IsCall (call.PulledGet key) what m n a b = (what ≡ 29) × (text_said a ≡ Ok 
 IsCall (call.PulledScan scan) what m n a b = (what ≡ 30) × (scan_said a m b n ≡ Ok scan.now)
 IsCall (call.Unwatch w) what m n a b = (what ≡ 31) × (w ≡ m)
 IsCall call.AskedRun what m n a b = what ≡ 32
+IsCall (call.PollChanges w) what m n a b = (what ≡ 33) × (w ≡ m)
+IsCall (call.DraftWrites writes) what m n a b = (what ≡ 34) × (writes_said a ≡ Ok writes.now)
 IsCall other what m n a b = ⊥
 
 -- a call that has a key, and one that has a scan
@@ -67,11 +69,11 @@ SaysNothing what m n a b e =
     ((what ≡ 0) × (uuid_said a ≡ Err e)) ⊎ (HasKey what × (text_said a ≡ Err e))
     ⊎ (HasScan what × (scan_said a m b n ≡ Err e)) ⊎ ((what ≡ 13) × (named_said a b ≡ Err e))
     ⊎ ((what ≡ 21) × (put_said a b ≡ Err e)) ⊎ ((what ≡ 23) × (ran_said m n ≡ Err e))
-    ⊎ ((32 < what) × (e ≡ Faulty OutOfRange))
+    ⊎ ((what ≡ 34) × (writes_said a ≡ Err e)) ⊎ ((34 < what) × (e ≡ Faulty OutOfRange))
 
 -- memory is taken for what it is given
 abbrev pub IsCopied : ℕ → Type 0
-IsCopied what = HasScan what ⊎ (what ≡ 13) ⊎ (what ≡ 21)
+IsCopied what = HasScan what ⊎ (what ≡ 13) ⊎ (what ≡ 21) ⊎ (what ≡ 34)
 
 -- The call of these numbers is answered, if what it is given says something; memory may be refused for that.
 abbrev pub MayAnswerNumbers : (Bytes → Bool) → Meanings → Numbered → Rule

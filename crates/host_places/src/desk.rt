@@ -9,7 +9,7 @@ ghost use Rattle.host_places.specs.Asking.{ran_said};
 ghost use Rattle.host_places.specs.Numbers.{HasKey, HasScan, IsRunSaid, MayAnswerNumbers};
 
 use crate::numbered::{Numbered, key_call, scan_call};
-use crate::texts::{named_of, put_of, ran_of, scan_of, str_of, uuid_of};
+use crate::texts::{named_of, put_of, ran_of, scan_of, str_of, uuid_of, writes_of};
 use client_desk::{Call, Fault, HostRuns, Hosted, Keep, Mutate, Outcome, Place};
 use rebase::{Arena, Seat};
 use std::alloc::Global;
@@ -154,6 +154,17 @@ impl<M: HostRuns> Desk<M> {
         }
     }
 
+    fn write(&mut self, asked: Numbered<'_>) -> Outcome
+        requires { asked.what ≡ 34 }
+        ensures { MayAnswerNumbers M.had M.means asked.entry self.old.place (told result self.new.bytes)
+            self.new.place }
+    {
+        match writes_of(self.alloc, asked.a) {
+            Ok(writes) => self.call(Call::DraftWrites(writes.as_slice())),
+            Err(outcome) => self.refuse(outcome),
+        }
+    }
+
     fn ran(&mut self, asked: Numbered<'_>) -> Outcome
         requires what { asked.what ≡ 23 }
         requires run { IsRunSaid M.had M.means self.old.place.asking (ran_said asked.m asked.n) }
@@ -166,7 +177,7 @@ impl<M: HostRuns> Desk<M> {
         }
     }
 
-    /// Makes the call of these numbers and bytes. A number above 32 is that of no call. Where it tells that a run has
+    /// Makes the call of these numbers and bytes. A number above 34 is that of no call. Where it tells that a run has
     /// ended, the run is one of what the group's mutators mean.
     pub fn call_numbered(&mut self, asked: Numbered<'_>) -> Outcome
         requires { asked.what ≡ 23
@@ -208,6 +219,8 @@ impl<M: HostRuns> Desk<M> {
             30 => self.call_scan(asked),
             31 => self.call(Call::Unwatch(asked.m as usize)),
             32 => self.call(Call::AskedRun),
+            33 => self.call(Call::PollChanges(asked.m as usize)),
+            34 => self.write(asked),
             _ => self.refuse(Outcome::Faulty(Fault::OutOfRange)),
         }
     }

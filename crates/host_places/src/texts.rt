@@ -1,10 +1,11 @@
 //! What the bytes of a host say.
 ghost use Rattle.std.specs.Prelude.{◌≡◌};
 ghost use Rattle.host_places.specs.Asking.{IsSaid, json_said, limit_said, map_said, named_said, put_said, ran_said};
-ghost use Rattle.host_places.specs.Asking.{scan_said, start_said, text_said, uuid_said};
+ghost use Rattle.host_places.specs.Asking.{scan_said, start_said, text_said, uuid_said, writes_said};
 
 use client_desk::{Fault, Outcome};
 use group_history::{Json, Ran, Refusal, Scan, Start, Text};
+use pull_patch::{Write, read_writes};
 use rebase::Uuid;
 use std::alloc::Global;
 
@@ -112,6 +113,16 @@ pub(crate) fn put_of<'a>(
     let key = str_of(key)?;
     let value = json_of(alloc, value)?;
     Ok((key, value))
+}
+
+/// The writes that bytes are.
+pub(crate) fn writes_of(alloc: Global, bytes: &[u8]) -> Result<Vec<Write>, Outcome>
+    ensures { IsSaid (map_said (λ writes. writes.items) result) (writes_said bytes.now) }
+{
+    match read_writes(alloc, bytes) {
+        Ok(writes) => Ok(writes),
+        Err(refusal) => Err(Outcome::Refused(refusal)),
+    }
 }
 
 /// How a run ended, by its numbers: 0 is done, 1 refused with a code, 2 is that there is no such mutator.

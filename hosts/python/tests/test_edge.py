@@ -17,11 +17,14 @@ from unittest import mock
 from giqaymu import edge
 from giqaymu.edge import (
     AskedRun,
+    Del,
+    Diff,
     Draft,
     Ended,
     Group,
     Json,
     Place,
+    Put,
     Refusal,
     Refuse,
     Slots,
@@ -217,6 +220,25 @@ class Calls(unittest.TestCase):
             self.refused(Why.READS, anna.poll, others)
             anna.unwatch(others)
         self.assertEqual(anna.poll(anna.watch("a")), [("a", 1)])
+
+    def test_changes(self) -> None:
+        anna, bert = seated()
+        bert.mutate("set", ["a", 1])
+        watch = anna.watch()
+        self.assertEqual(anna.poll_changes(watch), [Diff("add", "a", None, 1)])
+        self.assertIsNone(anna.poll_changes(watch))
+        bert.mutate("set", ["a", None])
+        bert.mutate("set", ["é", {"x": []}])
+        changed = [Diff("change", "a", 1, None), Diff("add", "é", None, {"x": []})]
+        self.assertEqual(anna.poll_changes(watch), changed)
+        self.assertIsNone(anna.poll(watch))
+        bert.mutate("del", ["a"])
+        self.assertEqual(anna.poll_changes(watch), [Diff("del", "a", None, None)])
+        bert.mutate("del", ["é"])
+        self.assertEqual((anna.poll(watch), anna.poll_changes(watch)), ([], None))
+        self.refused(Why.NO_WATCH, bert.poll_changes, watch)
+        with anna.reading():
+            self.refused(Why.READS, anna.poll_changes, watch)
 
     def test_refused_mutations(self) -> None:
         anna, bert = seated()
@@ -436,6 +458,23 @@ class OwnMutators(unittest.TestCase):
         self.assertIs(pull(anna, response(3)), Ended.SAME)
         self.assertEqual(bert.pending(), [])
 
+    def test_writes(self) -> None:
+        def fill(draft: Draft, args: Json) -> None:
+            draft.put("old", 1)
+            draft.write([Put("a", args), Put("b", 0), Put("b", ["é"]), Del("old"), Del("none")])
+            draft.write(iter([]))
+            self.refused(Why.NOT_WHOLE, draft.write, [Del("a"), Put("b", 0.5)])
+            deep: Json = 1
+            for _ in range(125):
+                deep = [deep]
+            self.refused(Why.NOT_JSON, draft.write, [Del("a"), Put("b", deep)])
+            draft.write([Put("deep", deep[0])])
+
+        anna, bert = self.seated(fill=fill)
+        anna.mutate("fill", {"x": 1})
+        self.assertEqual(bert.scan()[:2], [("a", {"x": 1}), ("b", ["é"])])
+        self.assertEqual([row.key for row in bert.scan()], ["a", "b", "deep"])
+
     def test_errors(self) -> None:
         anna, bert = self.seated()
         with self.assertRaises(KeyError):
@@ -605,9 +644,9 @@ class Numbers(unittest.TestCase):
             with mock.patch.object(ctypes, "CDLL", return_value=library):
                 edge._library.__wrapped__()
 
-        for number in (10100, 10199, edge._UNPROVED | 10100):
+        for number in (10200, 10299, edge._UNPROVED | 10200):
             loaded(number)
-        for number in (10099, 10200, 20100, edge._UNPROVED | 10200):
+        for number in (10199, 10300, 20200, edge._UNPROVED | 10300):
             with self.assertRaises(Refusal) as told:
                 loaded(number)
             self.assertEqual(told.exception.why, Why.BAD_VERSION)

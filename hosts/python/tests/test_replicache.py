@@ -90,6 +90,21 @@ class Calls(WithServer):
             kept.get("n/x")
         self.assertIs(refused.exception.why, Why.NOT_READ)
 
+    def test_rows_that_are_set_together(self) -> None:
+        def fill(tx: Any, args: Any) -> None:
+            tx.set("a", 0)
+            tx.set_all({"a": args, "b": None, "é": [args]})
+
+        anna = self.rep(mutators={"fill": fill}, pusher=offline)
+        told: list[Any] = []
+        anna.subscribe(lambda tx: tx.get("é"), told.append)
+        anna.mutate.fill(1)
+        self.assertEqual(rows(anna), {"a": 1, "b": None, "é": [1]})
+        self.holds(lambda: told[-1:] == [[1]])
+        with self.assertRaises(Refusal) as refused:
+            anna.mutate.fill(0.5)
+        self.assertEqual((refused.exception.why, rows(anna)["a"]), (Why.NOT_WHOLE, 1))
+
     def test_clients(self) -> None:
         anna = self.rep(clients=2, pusher=offline)
         bert = anna.client()
@@ -268,20 +283,40 @@ class Subscriptions(WithServer):
         self.assertEqual({"todo/x" in one for one in told[3:]}, {True})
 
     def test_a_change_that_is_told_late(self) -> None:
-        """A watch that has looked at some keys alone isn't at the moment at which it did."""
-        rows = {"a": 1, "b": 1}
-        seen: list[Diff] = []
-        watch = subscriptions.Watch(seen.extend, "", tells_first=False)
+        """A watch that has looked at some keys alone isn't at the moment at which it did, and tells nothing twice."""
+        old = {f"{number:03}": 1 for number in range(200)}
+        rows = dict(old)
+        seen: list[tuple[str, str, Any]] = []
+        answers = [
+            (True, [Diff("add", key, None, value) for key, value in rows.items()]),
+            Refusal(Why.NO_MEMORY),
+            (False, [Diff("change", "000", 1, 2), Diff("change", "001", 1, 3), Diff("add", "x", None, [])]),
+            (True, [Diff("add", key, None, value) for key, value in {**old, "000": 2, "001": 4}.items()]),
+        ]
+        changes = mock.Mock(side_effect=answers)
+
+        def told(diffs: list[Diff]) -> None:
+            seen.extend((diff.op, diff.key, diff.new_value) for diff in diffs)
 
         def ask(query: Any, reads: Any) -> Any:
-            tx = mock.Mock(**{"scan": lambda prefix: list(rows.items()), "get": rows.get, "has": rows.__contains__})
-            return query(tx)
+            return query(mock.Mock(**{"get": rows.get, "has": rows.__contains__}))
 
+        watch = subscriptions.Watch(told, "", mock.Mock(changes=changes), tells_first=False)
         watch.tell(ask, None, (1, 1))
-        rows.update(a=2, b=2)
-        watch.tell(ask, {"a"}, (1, 3))
-        watch.tell(ask, {"b"}, (1, 3))
-        self.assertEqual([(diff.key, diff.new_value) for diff in seen], [("a", 2), ("b", 2)])
+        rows.update({"000": 2, "001": 2, "002": 2})
+        watch.tell(ask, {"000"}, (1, 3))
+        watch.tell(ask, {"001", "002"}, (1, 3))
+        changed = [("change", "000", 2), ("change", "001", 2), ("change", "002", 2)]
+        self.assertEqual((changes.call_count, seen), (1, changed))
+        with contextlib.suppress(Refusal):
+            watch.tell(ask, None, (1, 4))
+        watch.tell(ask, {f"{number:03}" for number in range(5)}, (1, 4))  # so many that all are polled
+        watch.tell(ask, None, (1, 4))
+        watch.tell(ask, None, (2, 4))  # in a group that grew
+        # What isn't polled of what was told is as it was.
+        changed = [("change", "001", 3), ("change", "002", 1), ("add", "x", [])]
+        self.assertEqual((changes.call_count, seen[3:6]), (4, changed))
+        self.assertEqual(seen[6:], [("change", "001", 4), ("del", "x", None)])
 
     def test_what_a_rebase_takes_back_is_told(self) -> None:
         anna = self.rep(pusher=offline)
@@ -324,6 +359,24 @@ class Subscriptions(WithServer):
             self.assertIsNone(got[-1].new_value)
             self.assertEqual(len(late), 1)
             anna.close()
+
+    def test_a_watch_of_a_group_that_grows(self) -> None:
+        anna = self.rep(rules=todo.RULES, pusher=offline, puller=offline)
+        got: list[Diff] = []
+        for key in ("1", "2"):
+            anna.mutate.add(id=key, text=key)
+        end = anna.experimental_watch(got.extend, prefix="todo/", initial_values_in_first_diff=True)
+        self.holds(lambda: [(diff.op, diff.key) for diff in got] == [("add", "todo/1"), ("add", "todo/2")])
+        with anna._kept._lock:
+            anna._kept._grow()
+        anna.mutate.remove(id="1")
+        self.holds(lambda: [(diff.op, diff.key) for diff in got[2:]] == [("del", "todo/1")])
+        anna.mutate.rename(id="2", text="due")
+        self.holds(lambda: [(diff.op, diff.key) for diff in got[3:]] == [("change", "todo/2")])
+        place = anna._kept._place(playing.TELL)
+        with mock.patch.object(place, "_call", wraps=place._call) as call:
+            end()
+            self.holds(lambda: [one.args[0] for one in call.call_args_list] == [edge._What.UNWATCH])
 
     def test_listeners(self) -> None:
         anna = self.rep(pusher=offline)

@@ -45,6 +45,8 @@ pub(crate) enum What {
     PulledScan = 30,
     Unwatch = 31,
     AskedRun = 32,
+    PollChanges = 33,
+    DraftWrites = 34,
 }
 
 /// What a call is given: two numbers and two byte strings, of which each call uses some.

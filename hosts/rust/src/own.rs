@@ -50,7 +50,8 @@ impl Ran {
     }
 }
 
-/// The map that a run reads and writes. A refused call leaves it as it was, and the run may go on.
+/// The map that a run reads and writes. A refused call leaves it as it was, but for [`Draft::write`]; then the run may
+/// go on.
 #[derive(Debug)]
 pub struct Draft<'a> {
     place: &'a mut Place,
@@ -89,6 +90,15 @@ impl Draft<'_> {
     pub fn del(&mut self, key: &str) -> Result<(), Refusal> {
         let a = key.as_bytes();
         self.place.call(What::DraftDel, Given { a, ..Given::default() })?;
+        Ok(())
+    }
+
+    /// Puts values and takes keys out: a JSON array of operations as in the patch of a pull, `put` with `key` and
+    /// `value`, and `del` with `key`, in their order. Refused with `NotJson`, `BadShape` and `NotWhole`, and then none
+    /// is done; with `NoMemory`, `Busy` and `Gone`, and then the first ones may be done.
+    pub fn write(&mut self, writes: &str) -> Result<(), Refusal> {
+        let a = writes.as_bytes();
+        self.place.call(What::DraftWrites, Given { a, ..Given::default() })?;
         Ok(())
     }
 }

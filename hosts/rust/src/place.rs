@@ -284,4 +284,14 @@ impl Place {
         let told = self.call(What::Poll, Given { m, ..Given::default() })?;
         Ok((told.returned != NONE).then_some(told.bytes))
     }
+
+    /// What changed in the rows of a watch since they were told last, by this or by [`Place::poll`]; none where nothing
+    /// did. An array of objects in the order of their keys' bytes, each with `key` and an `op`: `add` with a
+    /// `newValue`, `del` with an `oldValue`, `change` with both. The first time each row is added. Refused with
+    /// `NoWatch` where the watch is another client's.
+    pub fn poll_changes(&mut self, watch: &Watch) -> Result<Option<&[u8]>, Refusal> {
+        let m = self.watched(watch)?;
+        let told = self.call(What::PollChanges, Given { m, ..Given::default() })?;
+        Ok((told.returned != NONE).then_some(told.bytes))
+    }
 }

@@ -6,7 +6,7 @@ use std::fmt;
 const UNPROVED: u32 = 0x8000_0000;
 
 /// The version that this crate calls: `GIQ_VERSION`.
-const CALLED: Version = Version::of(10_100);
+const CALLED: Version = Version::of(10_200);
 
 /// A version of the library.
 #[derive(Clone, Copy, Debug, PartialEq, Eq, Hash)]
@@ -47,9 +47,9 @@ mod tests {
 
     #[test]
     fn this_crate_calls_its_minor_version() {
-        let called = [10_100, 10_199, UNPROVED | 10_100].map(|number| Version::of(number).is_called());
+        let called = [10_200, 10_299, UNPROVED | 10_200].map(|number| Version::of(number).is_called());
         assert_eq!(called, [true; 3]);
-        let others = [10_099, 10_200, 20_100, UNPROVED | 10_200].map(|number| Version::of(number).is_called());
+        let others = [10_199, 10_300, 20_200, UNPROVED | 10_300].map(|number| Version::of(number).is_called());
         assert_eq!(others, [false; 4]);
         assert_eq!(Version::of(UNPROVED | 1_020_304).to_string(), "102.3.4 (unproved)");
     }

@@ -192,6 +192,29 @@ fn watches() -> Result<(), Refusal> {
 }
 
 #[test]
+fn watches_tell_changes() -> Result<(), Refusal> {
+    let [mut anna, mut bert] = seated();
+    bert.mutate("set", r#"["a",1]"#, 0)?;
+    let watch = anna.watch(&Scan::default())?;
+    assert_eq!(anna.poll_changes(&watch)?.map(text), Some(r#"[{"key":"a","newValue":1,"op":"add"}]"#));
+    assert_eq!(anna.poll_changes(&watch)?, None);
+    bert.mutate("set", r#"["a",null]"#, 0)?;
+    bert.mutate("set", r#"["b",[]]"#, 0)?;
+    assert_eq!(
+        anna.poll_changes(&watch)?.map(text),
+        Some(r#"[{"key":"a","newValue":null,"oldValue":1,"op":"change"},{"key":"b","newValue":[],"op":"add"}]"#)
+    );
+    assert_eq!(anna.poll(&watch)?, None);
+    bert.mutate("del", r#"["a"]"#, 0)?;
+    assert_eq!(anna.poll_changes(&watch)?.map(text), Some(r#"[{"key":"a","oldValue":null,"op":"del"}]"#));
+    bert.mutate("del", r#"["b"]"#, 0)?;
+    assert_eq!(anna.poll(&watch)?.map(text), Some("[]"));
+    assert_eq!(anna.poll_changes(&watch)?, None);
+    assert_eq!(bert.poll_changes(&watch), Err(Refusal::NoWatch));
+    Ok(())
+}
+
+#[test]
 fn refused_mutations() -> Result<(), Refusal> {
     let [mut anna, mut bert] = seated();
     assert_eq!(anna.mutate("nothing", "[]", 0), Err(Refusal::NoMutator));

@@ -113,6 +113,27 @@ fn a_run_is_told_in_one() -> Result<(), Refusal> {
 }
 
 #[test]
+fn writes_come_together() -> Result<(), Refusal> {
+    let [mut anna, _bert] = seated();
+    anna.mutate_with("note", "1", 5, |_, draft| {
+        draft.put("c", "1")?;
+        draft.write(
+            r#"[{"op":"put","key":"a","value":[ 1 ]},{"op":"put","key":"b","value":2},{"op":"del","key":"c"}]"#,
+        )?;
+        for (writes, refusal) in [
+            ("[", Refusal::NotJson),
+            (r#"[{"op":"del","key":"a"},{"op":"clear"}]"#, Refusal::BadShape),
+            (r#"[{"op":"del","key":"a"},{"op":"put","key":"b","value":0.5}]"#, Refusal::NotWhole),
+        ] {
+            assert_eq!(draft.write(writes), Err(refusal));
+        }
+        Ok(Ran::Done)
+    })?;
+    assert_eq!(text(anna.scan(&Scan::default())?), r#"[["a",[1]],["b",2]]"#);
+    Ok(())
+}
+
+#[test]
 fn others_are_first() -> Result<(), Refusal> {
     let [mut anna, mut bert] = seated();
     let mut runs = 0;

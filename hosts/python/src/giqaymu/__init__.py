@@ -13,6 +13,8 @@ from .callbacks import UpdateNeeded
 from .edge import (
     STACK,
     AskedRun,
+    Del,
+    Diff,
     Draft,
     Ended,
     Group,
@@ -20,6 +22,7 @@ from .edge import (
     Mutator,
     Pending,
     Place,
+    Put,
     Reading,
     Refusal,
     Refuse,
@@ -38,7 +41,6 @@ from .loops import Closed, RequestOptions
 from .playing import TooLarge
 from .replicache import Replicache
 from .store import SetAside
-from .subscriptions import Diff
 from .syncing import Poster
 from .transactions import QueryTransaction, ReadTransaction, WriteTransaction
 from .transport import Answered, Offline, Reply, Transport
@@ -47,6 +49,7 @@ __all__ = [
     "Answered",
     "AskedRun",
     "Closed",
+    "Del",
     "Diff",
     "Draft",
     "Ended",
@@ -59,6 +62,7 @@ __all__ = [
     "PendingMutation",
     "Place",
     "Poster",
+    "Put",
     "QueryTransaction",
     "ReadTransaction",
     "Reading",

@@ -29,7 +29,7 @@ import threading
 import time
 import uuid
 import weakref
-from collections.abc import Callable, Mapping
+from collections.abc import Callable, Iterable, Mapping
 from dataclasses import dataclass
 from pathlib import Path
 from types import TracebackType
@@ -37,6 +37,8 @@ from typing import Any, Literal, NamedTuple
 
 __all__ = [
     "AskedRun",
+    "Del",
+    "Diff",
     "Draft",
     "Ended",
     "Group",
@@ -44,6 +46,7 @@ __all__ = [
     "Mutator",
     "Pending",
     "Place",
+    "Put",
     "Reading",
     "Refusal",
     "Refuse",
@@ -205,6 +208,28 @@ class Row(NamedTuple):
     value: Json
 
 
+class Diff(NamedTuple):
+    """One difference of a watch (Replicache: `Diff`): `op` is add, change or del; a value that is not there is None."""
+
+    op: str
+    key: str
+    old_value: Json
+    new_value: Json
+
+
+class Put(NamedTuple):
+    """A write of a run: the key has the value."""
+
+    key: str
+    value: Json
+
+
+class Del(NamedTuple):
+    """A write of a run: the key is not there, whether or not it was."""
+
+    key: str
+
+
 class Pending(NamedTuple):
     """A pending mutation."""
 
@@ -292,6 +317,8 @@ class _What(enum.IntEnum):
     PULLED_SCAN = 30
     UNWATCH = 31
     ASKED_RUN = 32
+    POLL_CHANGES = 33
+    DRAFT_WRITES = 34
 
 
 class Version(NamedTuple):
@@ -304,7 +331,7 @@ class Version(NamedTuple):
     """Whether the library was built from its proof. It says so itself."""
 
 
-_CALLED, _UNPROVED = 10100, 0x80000000
+_CALLED, _UNPROVED = 10200, 0x80000000
 _NONE, _YES, _ASKED = 1, 2, 3
 _RAN, _RAN_REFUSED, _RAN_UNKNOWN = 0, 1, 2
 _ANY, _AT, _AFTER = 0, 1, 2
@@ -657,6 +684,14 @@ class Place(_Queries):
         told = self._call(_What.POLL, self._number_watched(watch))
         return None if told.returned == _NONE else _rows(told.bytes)
 
+    def poll_changes(self, watch: Watch) -> list[Diff] | None:
+        """What changed in the rows of a watch since they were told last, by this or by `poll`; None where nothing did.
+
+        In the order of the keys' bytes. The first time each row is added. Refused as `poll` is.
+        """
+        told = self._call(_What.POLL_CHANGES, self._number_watched(watch))
+        return None if told.returned == _NONE else _diffs(told.bytes)
+
     def unwatch(self, watch: Watch) -> None:
         """Gives a watch up, and the rows that it keeps. Its number may be given again, so don't use it any more.
 
@@ -744,6 +779,14 @@ class Draft(_Calls):
         """Takes the key out, whether or not it was there."""
         self._call(_What.DRAFT_DEL, a=key.encode())
 
+    def write(self, writes: Iterable[Put | Del]) -> None:
+        """Puts values and takes keys out, in their order, by one call.
+
+        Where it is refused with `Why.NOT_JSON` or `Why.NOT_WHOLE` none is done. Where it is refused for what `get` may
+        be refused for, as memory, the first ones may be done.
+        """
+        self._call(_What.DRAFT_WRITES, a=json_bytes([_operation(write) for write in writes]))
+
 
 Mutator = Callable[[Draft, Json], None]
 """A mutator of the program's own: it reads and writes the draft, and raises `Refuse` to refuse.
@@ -755,6 +798,17 @@ that is trusted.
 
 def _rows(text: bytes) -> list[Row]:
     return [Row(*row) for row in json.loads(text)]
+
+
+def _diffs(text: bytes) -> list[Diff]:
+    return [Diff(one["op"], one["key"], one.get("oldValue"), one.get("newValue")) for one in json.loads(text)]
+
+
+def _operation(write: Put | Del) -> dict[str, Json]:
+    """The write as an operation of a patch."""
+    if isinstance(write, Put):
+        return {"op": "put", "key": write.key, "value": write.value}
+    return {"op": "del", "key": write.key}
 
 
 class Group:

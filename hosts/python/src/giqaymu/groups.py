@@ -27,7 +27,7 @@ import time
 from collections.abc import Callable, Mapping
 from typing import Any
 
-from .edge import Ended, Place, Reading, Refusal, Ticket, Why, json_bytes
+from .edge import Diff, Ended, Place, Reading, Refusal, Ticket, Watch, Why, json_bytes
 from .journal import Entry, Journal, Mutation, Response, mutation_of, response_of
 from .loops import Closed
 from .playing import HOUSE, MOST_SLOTS, PULL, PUSH, TELL, Inside, Opened, Player, Runs, TooLarge, Unplayable
@@ -70,6 +70,33 @@ class Seat:
         self.last = 0
         """The ID of its last mutation that the journal has."""
         self.has_left = False
+
+
+class Rows:
+    """The rows with a prefix, which the thread that calls back polls for a watch."""
+
+    def __init__(self, prefix: str, place: Callable[[], Place]) -> None:
+        """For `KeptGroup` alone."""
+        self._prefix, self._place_now = prefix, place
+        self._place: Place | None = None
+        self._watch: Watch | None = None
+        self._is_told = False  # whether the watch told rows
+
+    def changes(self) -> tuple[bool, list[Diff]]:
+        """What differs from the last time; or all rows as added, and True: the first time, and in a group that grew."""
+        place = self._place_now()
+        if self._watch is None or place is not self._place:
+            self._place, self._watch, self._is_told = place, place.watch(self._prefix), False
+        diffs = place.poll_changes(self._watch) or []
+        is_whole, self._is_told = not self._is_told, True
+        return is_whole, diffs
+
+    def end(self) -> None:
+        """Gives the watch up. It is not asked any more."""
+        watch, self._watch = self._watch, None
+        if watch is not None and self._place is not None:
+            with contextlib.suppress(Refusal):  # the place is closed
+                self._place.unwatch(watch)
 
 
 class KeptGroup:
@@ -411,6 +438,10 @@ class KeptGroup:
                 return query(_transaction(reading, seat, reads))
             finally:
                 self._inside.busy = False
+
+    def rows(self, prefix: str) -> Rows:
+        """The rows with the prefix, for a watch."""
+        return Rows(prefix, lambda: self._place(TELL))
 
     def moment(self) -> Moment:
         """The group's moment. A group that has grown numbers its moments anew, and has more slots."""

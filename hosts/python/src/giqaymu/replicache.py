@@ -32,13 +32,14 @@ from types import TracebackType
 from typing import Any
 
 from .callbacks import Announcer, Callbacks, UpdateNeeded
+from .edge import Diff
 from .groups import KeptGroup, Seat
 from .journal import Entry, PendingMutation
 from .loops import RequestOptions
 from .playing import Unplayable
 from .recovery import Pokes, Recovery
 from .store import Durability, Identity, JournalFile, Left, SetAside, left_behind
-from .subscriptions import Diff, Listener, Subscription, Teller, Watch
+from .subscriptions import Listener, Subscription, Teller, Watch
 from .syncing import Poster, Syncer
 from .transactions import Mutator, Query
 from .transport import Transport
@@ -322,8 +323,14 @@ class Replicache:
 
         It keeps the rows below the prefix in memory. What this answers ends the watch.
         """
-        watch = Watch(callback, prefix, tells_first=initial_values_in_first_diff)
-        return self._shared.teller.add(watch)
+        teller, rows = self._shared.teller, self._kept.rows(prefix)
+        unsubscribe = teller.add(Watch(callback, prefix, rows, tells_first=initial_values_in_first_diff))
+
+        def end() -> None:
+            unsubscribe()
+            teller.later(rows.end)
+
+        return end
 
     def on_change(self, listener: Callable[[], None]) -> Callable[[], None]:
         """Calls the listener, soon, and whenever the map, what is pending or `online` may have changed.

@@ -16,8 +16,9 @@ import logging
 import threading
 from collections import deque
 from collections.abc import Callable
-from typing import Any, NamedTuple
+from typing import Any, Protocol
 
+from .edge import Diff
 from .transactions import Query, ReadTransaction, Reads, is_touched
 
 Json = Any
@@ -25,16 +26,17 @@ Ask = Callable[[Query, Reads | None], Json]
 """Runs a query as of one moment, and remembers what it read."""
 Moment = tuple[int, int]
 """By what a group's states are told apart."""
+POLLED = 50
+"""Two gets of a key cost what a poll of so many rows does."""
 log = logging.getLogger("giqaymu")
 
 
-class Diff(NamedTuple):
-    """One difference of a watch (Replicache: `Diff`): `op` is add, change or del; a value that is not there is None."""
+class Polled(Protocol):
+    """The rows with a prefix, which are polled."""
 
-    op: str
-    key: str
-    old_value: Json
-    new_value: Json
+    def changes(self) -> tuple[bool, list[Diff]]:
+        """What differs from the last time; or all rows as added, and True: the first time, and in another group."""
+        ...
 
 
 class Subscription:
@@ -79,31 +81,42 @@ class Subscription:
 class Watch:
     """The rows with a prefix, whose differences are told."""
 
-    def __init__(self, callback: Callable[[list[Diff]], None], prefix: str, *, tells_first: bool) -> None:
-        self._callback, self._prefix, self._tells_first = callback, prefix, tells_first
+    def __init__(
+        self, callback: Callable[[list[Diff]], None], prefix: str, polled: Polled, *, tells_first: bool
+    ) -> None:
+        self._callback, self._prefix, self._polled, self._tells_first = callback, prefix, polled, tells_first
         self._rows: dict[str, Json] | None = None
-        self._moment: Moment | None = None  # at which all rows were looked at
+        self._moment: Moment | None = None  # at which all rows were polled
+        self._told: dict[str, Diff] = {}  # of each key the first difference that was told since, without a poll
 
     def tell(self, ask: Ask, keys: set[str] | None, moment: Moment) -> None:
         """Looks at these keys, or at all, and tells what differs."""
         if self._moment == moment:
             return
         if self._rows is None:
-            diffs = self._all(ask, {}, moment)
+            diffs = self._all({}, moment)
             if self._tells_first:
                 self._callback(diffs)
             return
-        if keys is None:
-            diffs = self._all(ask, self._rows, moment)
+        mine = None if keys is None else {key for key in keys if key.startswith(self._prefix)}
+        if mine is None or POLLED * len(mine) > len(self._rows):
+            diffs = self._all(self._rows, moment)
         else:
-            diffs = self._some(ask, self._rows, {key for key in keys if key.startswith(self._prefix)})
+            diffs = self._some(ask, self._rows, mine)
         if diffs:
             self._callback(diffs)
 
-    def _all(self, ask: Ask, old: dict[str, Json], moment: Moment) -> list[Diff]:
-        self._rows = dict(ask(lambda tx: tx.scan(self._prefix), None))
-        self._moment = moment
-        return _diffs(old, self._rows)
+    def _all(self, rows: dict[str, Json], moment: Moment) -> list[Diff]:
+        is_whole, polled = self._polled.changes()
+        self._rows, self._moment = rows, moment
+        told, self._told = self._told, {}
+        # What was told since, and isn't polled now, is as it was at the last poll; where all rows are it is gone.
+        new = {} if is_whole else {key: diff.old_value for key, diff in told.items() if diff.op != "add"}
+        new.update((diff.key, diff.new_value) for diff in polled)
+        for diff in polled:
+            if diff.op == "del":
+                del new[diff.key]
+        return _laid(rows, {*rows, *new} if is_whole else {*told, *(diff.key for diff in polled)}, new)
 
     def _some(self, ask: Ask, rows: dict[str, Json], keys: set[str]) -> list[Diff]:
         if not keys:
@@ -112,12 +125,17 @@ class Watch:
         def values(tx: ReadTransaction) -> dict[str, Json]:
             return {key: tx.get(key) for key in keys if tx.has(key)}
 
-        old = {key: rows[key] for key in keys if key in rows}
-        new: dict[str, Json] = ask(values, None)
-        for key in keys:
-            rows.pop(key, None)
-        rows.update(new)
-        return _diffs(old, new)
+        diffs = _laid(rows, keys, ask(values, None))
+        for diff in diffs:
+            self._told.setdefault(diff.key, diff)
+        return diffs
+
+
+def _laid(rows: dict[str, Json], keys: set[str], new: dict[str, Json]) -> list[Diff]:
+    """Gives these keys what is new, to the others nothing: what differs."""
+    old = {key: rows.pop(key) for key in keys if key in rows}
+    rows.update(new)
+    return _diffs(old, new)
 
 
 def _diffs(old: dict[str, Json], new: dict[str, Json]) -> list[Diff]:

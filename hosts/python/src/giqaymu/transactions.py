@@ -6,10 +6,10 @@ query's is refused with `Why.NOT_READ`, and a mutator's with `Why.NOT_ASKED`.
 
 from __future__ import annotations
 
-from collections.abc import Callable
+from collections.abc import Callable, Mapping
 from typing import Any
 
-from .edge import Draft, Reading, Row
+from .edge import Draft, Put, Reading, Row
 
 Json = Any
 
@@ -142,6 +142,11 @@ class WriteTransaction(ReadTransaction):
         """Puts a value at the key: what `json` writes, with whole numbers of 64 bits alone."""
         self._draft.put(key, value)
         self._writes.add(key)
+
+    def set_all(self, rows: Mapping[str, Json]) -> None:
+        """Puts each value at its key, as `set` does, by one call. Not Replicache's."""
+        self._writes.update(rows)
+        self._draft.write(Put(key, value) for key, value in rows.items())
 
     def delete(self, key: str) -> bool:
         """Takes the key out (Replicache: `del`). Whether it was there."""
