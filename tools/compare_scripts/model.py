@@ -96,20 +96,14 @@ class Group:
         return "applied"
 
     def scan(self, prefix: str, start: str, limit: int | None) -> list[list[Any]]:
-        rows = self.view
-        keys = sorted((key for key in rows if key.startswith(prefix)), key=str.encode)
-        if start.startswith("="):
-            keys = [key for key in keys if key.encode() >= start[1:].encode()]
-        if start.startswith(">"):
-            keys = [key for key in keys if key.encode() > start[1:].encode()]
-        return [[key, rows[key]] for key in keys[:limit]]
+        return scanned(self.view, prefix, start, limit)
 
-    def push_body(self) -> str:
+    def push_body(self, skip: int) -> str:
         group, profile, schema = map(quoted, self.identity)
         mutations = ",".join(
             f'{{"args":{compact(it.args)},"clientID":{quoted(it.client)},"id":{it.id}'
             f',"name":{quoted(it.name)},"timestamp":{it.time}}}'
-            for it in self.pending
+            for it in self.pending[skip:]
         )
         return (
             f'{{"clientGroupID":{group},"mutations":[{mutations}]'
@@ -122,6 +116,15 @@ class Group:
             f'{{"clientGroupID":{group},"cookie":{compact(self.cookie)}'
             f',"profileID":{profile},"pullVersion":1,"schemaVersion":{schema}}}'
         )
+
+
+def scanned(rows: Rows, prefix: str, start: str, limit: int | None) -> list[list[Any]]:
+    keys = sorted((key for key in rows if key.startswith(prefix)), key=str.encode)
+    if start.startswith("="):
+        keys = [key for key in keys if key.encode() >= start[1:].encode()]
+    if start.startswith(">"):
+        keys = [key for key in keys if key.encode() > start[1:].encode()]
+    return [[key, rows[key]] for key in keys[:limit]]
 
 
 def patched(rows: Rows, patch: list[dict[str, Any]]) -> Rows:

@@ -89,6 +89,15 @@ ODD_LINES = (
     "A begin 12345678901234567",
     "A get",
     "A push ",
+    "A push 1 2",
+    "A push -1",
+    "A push 18446744073709551616",
+    "A pulled",
+    "A pulled has a",
+    "A pulled get",
+    "A pulled scan - -",
+    "A unwatch",
+    "A unwatch zz",
     "A empty x",
     "A closed x",
 )
@@ -168,13 +177,15 @@ class Scripts:
         return mutator, f" {args} " if self.chance(0.1) else args
 
     def query(self, name: str) -> list[str]:
-        bare = ("empty", "closed", "pending", "cookie", "push", "refresh")
+        bare = ("empty", "closed", "pending", "cookie", "push", "refresh", f"push {self.pick((0, 1, '02', 9, 2**64 - 1))}")
         return [
             self.pick(
                 (
                     f"{name} {self.pick(bare)}",
                     f"{name} get {self.key()}",
                     f"{name} has {self.key()}",
+                    f"{name} pulled get {self.key()}",
+                    f"{name} pulled scan {self.scan()}",
                     f"{name} learn {self.pick(list(self.clients))}",
                     f"{name} scan {self.scan()}",
                     f"{name} scan {self.scan()}",
@@ -190,7 +201,7 @@ class Scripts:
     def poll(self, name: str) -> list[str]:
         own = [watch for client, watch in self.watches if client == name]
         if own and self.chance(0.8):
-            return [f"{name} poll {self.pick(own)}"]
+            return [f"{name} {self.pick(('poll', 'poll', 'poll', 'poll', 'unwatch'))} {self.pick(own)}"]
         watch = self.pick(("w", "v", "t"))
         self.watches.append((name, watch))
         return [f"{name} watch {watch} {self.scan()}"] + [f"{name} poll {watch}"] * self.chance(0.8)

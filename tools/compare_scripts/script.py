@@ -3,12 +3,25 @@
 import re
 from typing import Any, NamedTuple
 
-from model import Group, mutated
+from model import Group, mutated, scanned
 from wire import ARGS_DEPTH, NotJson, Refused, compact, is_whole, read_json
 
 HEADER_WORDS = ("group", "profile", "schema", "slots", "client")
-BARE_COMMANDS = ("empty", "closed", "pending", "cookie", "push", "refresh")
-COMMANDS = (*BARE_COMMANDS, "get", "has", "scan", "begin", "end", "mutate", "learn", "watch", "poll")
+# What `moment` and `slots` tell follows from how nodes are placed, which is no part of this model.
+UNTOLD = ("moment", "slots")
+BARE_COMMANDS = ("empty", "closed", "pending", "cookie", "refresh", *UNTOLD)
+KEY_COMMANDS = ("get", "has", "pulled get")
+SCAN_COMMANDS = ("scan", "pulled scan")
+WATCH_COMMANDS = ("poll", "unwatch")
+COMMANDS = (
+    *BARE_COMMANDS,
+    *KEY_COMMANDS,
+    *SCAN_COMMANDS,
+    *WATCH_COMMANDS,
+    *("push", "begin", "end", "mutate", "learn", "watch"),
+)
+# Commands of two words begin with one of these.
+FIRST_WORDS = ("pulled",)
 
 MOST_SLOTS = 2**24
 MOST_CLIENTS = 256
@@ -100,20 +113,31 @@ class Script:
 
     def read_call(self, number: int, line: str, words: list[str]) -> Line:
         expect(words[0] in self.names, "unknown client")
-        expect(len(words) > 1 and words[1] in COMMANDS, "unknown command")
-        client, command = self.names.index(words[0]), words[1]
+        length = 2 if words[1:] and words[1] in FIRST_WORDS else 1
+        client, command = self.names.index(words[0]), " ".join(words[1 : 1 + length])
+        expect(command in COMMANDS, "unknown command")
         rest = line[len(words[0]) + 1 + len(command) :]
-        if command in BARE_COMMANDS:
-            expect(len(words) == 2, "bad words")
-            found = None
-        elif command in ("get", "has"):
-            expect(rest, "bad words")
-            found = rest[1:]
-        else:
-            found = getattr(self, f"read_{command}")(client, words[2:], rest[1:])
+        found = self.read_rest(client, command, words[1 + length :], rest)
         call = Line(number, client, command, found)
         self.phases[-1].append(call)
         return call
+
+    def read_rest(self, client: int, command: str, words: list[str], rest: str) -> Any:
+        """Reads what stands behind a command."""
+        if command in BARE_COMMANDS:
+            expect(not words, "bad words")
+            return None
+        if command in KEY_COMMANDS:
+            expect(rest, "bad words")
+            return rest[1:]
+        kind = "scan" if command in SCAN_COMMANDS else "poll" if command in WATCH_COMMANDS else command
+        return getattr(self, f"read_{kind}")(client, words, rest[1:])
+
+    def read_push(self, _client: int, words: list[str], _rest: str) -> int:
+        if not words:
+            return 0
+        expect(len(words) == 1 and words[0], "bad words")
+        return number_of(words[0], 0, 2**64)
 
     def read_scan(self, _client: int, words: list[str], _rest: str) -> Scan:
         expect(len(words) == 3 and all(words) and START.fullmatch(words[1]), "bad words")
@@ -185,7 +209,7 @@ class Client:
 
     def reply(self, group: Group, command: str, words: Any) -> str:
         try:
-            return str(getattr(self, command)(group, words))
+            return str(getattr(self, command.replace(" ", "_"))(group, words))
         except Refused as refusal:
             return f"refused {refusal}"
 
@@ -211,8 +235,14 @@ class Client:
     def cookie(self, group: Group, _words: None) -> str:
         return f"cookie {compact(group.cookie)}"
 
-    def push(self, group: Group, _words: None) -> str:
-        return f"push {group.push_body()}"
+    def push(self, group: Group, skip: int) -> str:
+        return f"push {group.push_body(skip)}"
+
+    def pulled_get(self, group: Group, key: str) -> str:
+        return f"value {compact(group.pulled[key])}" if key in group.pulled else "none"
+
+    def pulled_scan(self, group: Group, words: Scan) -> str:
+        return f"rows {compact(scanned(group.pulled, *words))}"
 
     def begin(self, group: Group, ticket: str) -> str:
         self.tickets[ticket] = compact(group.cookie)
@@ -239,7 +269,12 @@ class Client:
         self.watches[name] = (scan, None)
         return "watching"
 
+    def unwatch(self, _group: Group, name: str) -> str:
+        return "unwatched" if self.watches.pop(name, None) else "no watch"
+
     def poll(self, group: Group, name: str) -> str:
+        if name not in self.watches:
+            return "no watch"
         scan, last = self.watches[name]
         rows = compact(group.scan(*scan))
         self.watches[name] = (scan, rows)

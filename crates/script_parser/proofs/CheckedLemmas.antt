@@ -21,8 +21,11 @@ use Rattle.script_parser.specs.Words.{text as text_of}
 use Rattle.script_parser.specs.Context.{Context, Lines, nothing_said, place_of}
 use Rattle.script_parser.specs.Header.{group_line, profile_line, schema_line, slots_line, client_line, header_line}
 use Rattle.script_parser.specs.Header.{with_client}
-use Rattle.script_parser.specs.Commands.{Told, phase_line, get_line, has_line, scan_words, with_scan, scan_line}
-use Rattle.script_parser.specs.Commands.{begin_line, end_line, watch_line, poll_line, mutate_line, learn_line}
+use Rattle.script_parser.specs.Commands.{Told, phase_line, get_line, has_line, scan_words, with_part, scan_line}
+use Rattle.script_parser.specs.Commands.{begin_line, end_line, watch_line, mutate_line, learn_line}
+use Rattle.script_parser.specs.Commands.{push_line, skip_word, pulled_get, pulled_scan, pulled_command}
+use Rattle.script_parser.specs.Commands.{pulled_line, sent_line}
+use Rattle.script_parser.specs.Commands.{watch_word, watched_line}
 use Rattle.script_parser.specs.Commands.{bare_command, told_bare, bare_line, look_line, named_command, command_of}
 use Rattle.script_parser.specs.Commands.{with_line, said_by, command_at, command_line}
 use Rattle.script_parser.specs.Names.{changed_at, noted, number_made}
@@ -58,19 +61,39 @@ has_line-sound : (c : Context) (rest : Option Bytes) → Sound c → IfOk (has_l
 unfolding has_line
 has_line-sound c rest sound = search (rules, IfOk-if)
 
-with_scan-sound : (said : Scan → Context × Command) (scan : Result Scan ScriptFault) → ((x : Scan) → SoundWith (said x))
-    → IfOk (with_scan said scan) SoundWith
-with_scan-sound said (Ok scan) sound = sound scan
-with_scan-sound said (Err f) sound = tt
+with_part-sound : {X : Type 0} (said : X → Context × Command) (part : Result X ScriptFault)
+    → ((x : X) → SoundWith (said x)) → IfOk (with_part said part) SoundWith
+with_part-sound said (Ok x) sound = sound x
+with_part-sound said (Err f) sound = tt
 
 scan_line-sound : (c : Context) (rest : Option Bytes) → Sound c → IfOk (scan_line c rest) SoundWith
 unfolding scan_line
-scan_line-sound c rest sound = with_scan-sound (λ scan. (c, command.Query (query.Scan scan))) (scan_words rest)
+scan_line-sound c rest sound = with_part-sound (λ scan. (c, command.Query (query.Scan scan))) (scan_words rest)
     (λ scan. (sound, tt))
 
-poll_line-sound : (c : Context) (client : ℕ) (rest : Option Bytes) → Sound c → IfOk (poll_line c client rest) SoundWith
-unfolding poll_line
-poll_line-sound c client rest sound = search (rules, IfOk-if)
+push_line-sound : (c : Context) (rest : Option Bytes) → Sound c → IfOk (push_line c rest) SoundWith
+push_line-sound c None sound = (sound, tt)
+push_line-sound c (Some t) sound = with_part-sound (λ n. (c, command.Query (query.Push n))) (skip_word t)
+    (λ n. (sound, tt))
+
+pulled_get-sound : (c : Context) (rest : Option Bytes) → Sound c → IfOk (pulled_get c rest) SoundWith
+unfolding pulled_get
+pulled_get-sound c rest sound = search (rules, IfOk-if)
+
+pulled_scan-sound : (c : Context) (rest : Option Bytes) → Sound c → IfOk (pulled_scan c rest) SoundWith
+unfolding pulled_scan
+pulled_scan-sound c rest sound = with_part-sound (λ scan. (c, command.Query (query.PulledScan scan)))
+    (scan_words rest) (λ scan. (sound, tt))
+
+pulled_command-sound : (c : Context) (name : Bytes) (rest : Option Bytes) → Sound c
+    → IfOk (pulled_command c name rest) SoundWith
+unfolding pulled_command
+pulled_command-sound c name rest sound = search (rules, IfOk-if, pulled_get-sound, pulled_scan-sound)
+
+pulled_line-sound : (c : Context) (rest : Option Bytes) → Sound c → IfOk (pulled_line c rest) SoundWith
+unfolding pulled_line
+pulled_line-sound c None sound = tt
+pulled_line-sound c (Some rest) sound = pulled_command-sound c (word rest) (more rest) sound
 
 mutate_line-sound : (c : Context) (rest : Option Bytes) → Sound c → IfOk (mutate_line c rest) SoundWith
 unfolding mutate_line
@@ -104,9 +127,9 @@ watch_line-sound c client rest sound =
     let name = word (text_of rest) in
     let made = noted client name c.watches in let number = number_made client name c.watches in
     IfOk-if (is_some rest && is_ticket_name name)
-    (with_scan (λ scan. (record c { watches = made }, command.Watch number scan)) (scan_words (more (text_of rest))))
+    (with_part (λ scan. (record c { watches = made }, command.Watch number scan)) (scan_words (more (text_of rest))))
     (Err text.BadWords) SoundWith
-    (λ is. with_scan-sound (λ scan. (record c { watches = made }, command.Watch number scan))
+    (λ is. with_part-sound (λ scan. (record c { watches = made }, command.Watch number scan))
     (scan_words (more (text_of rest))) (λ scan. (Sound-watched c made sound, tt))) (λ other. tt)
 
 begin_line-sound : (c : Context) (client : ℕ) (rest : Option Bytes) → Sound c
@@ -143,6 +166,10 @@ unfolding bare_line
 bare_line-sound c name rest sound = told_bare-sound c (bare_command name) rest sound
     (bare_learns (length c.clients) name)
 
+sent_line-sound : (c : Context) (name : Bytes) (rest : Option Bytes) → Sound c → IfOk (sent_line c name rest) SoundWith
+unfolding sent_line
+sent_line-sound c name rest sound = search (rules, IfOk-if, push_line-sound, pulled_line-sound, bare_line-sound)
+
 look_line-sound : (c : Context) (name : Bytes) (rest : Option Bytes) → Sound c → IfOk (look_line c name rest) SoundWith
 unfolding look_line
 look_line-sound c name rest sound = search (
@@ -153,14 +180,24 @@ look_line-sound c name rest sound = search (
   scan_line-sound,
   learn_line-sound,
   mutate_line-sound,
-  bare_line-sound,
+  sent_line-sound,
 )
+
+watched_line-sound : (c : Context) (client : ℕ) (name : Bytes) (rest : Option Bytes) → Sound c
+    → IfOk (watched_line c client name rest) SoundWith
+unfolding watched_line
+watched_line-sound c client name rest sound =
+    IfOk-if (same_text name (codes "poll")) _ _ SoundWith
+    (λ is. with_part-sound (λ n. (c, command.Poll n)) (watch_word c client rest) (λ n. (sound, tt)))
+    (λ other. IfOk-if (same_text name (codes "unwatch")) _ _ SoundWith
+    (λ is. with_part-sound (λ n. (c, command.Unwatch n)) (watch_word c client rest) (λ n. (sound, tt)))
+    (λ no. look_line-sound c name rest sound))
 
 named_command-sound : (c : Context) (client : ℕ) (name : Bytes) (rest : Option Bytes) → Sound c
     → IfOk (named_command c client name rest) SoundWith
 unfolding named_command
 named_command-sound c client name rest sound = search
-    (rules, IfOk-if, begin_line-sound, end_line-sound, watch_line-sound, poll_line-sound, look_line-sound)
+    (rules, IfOk-if, begin_line-sound, end_line-sound, watch_line-sound, watched_line-sound)
 
 command_of-sound : (c : Context) (client : ℕ) (rest : Option Bytes) → Sound c
     → IfOk (command_of c client rest) SoundWith

@@ -49,21 +49,21 @@ scan_words rest =
       limit = limit_said limit;
     })
 
--- what a line says that has a scan
-abbrev pub with_scan : (Scan → Context × Command) → Result Scan ScriptFault → Told
-with_scan said (Ok scan) = Ok (said scan)
-with_scan said (Err f) = Err f
+-- what a line says that has such a part
+abbrev pub with_part : {X : Type 0} → (X → Context × Command) → Result X ScriptFault → Told
+with_part said (Ok x) = Ok (said x)
+with_part said (Err f) = Err f
 
 -- `scan PREFIX START LIMIT`
 unfoldable pub scan_line : Context → Option Bytes → Told
-scan_line c rest = with_scan (λ scan. (c, command.Query (query.Scan scan))) (scan_words rest)
+scan_line c rest = with_part (λ scan. (c, command.Query (query.Scan scan))) (scan_words rest)
 
 -- `watch W PREFIX START LIMIT`
 unfoldable pub watch_line : Context → ℕ → Option Bytes → Told
 watch_line c client rest =
     let name = word (text rest) in
     let number = number_made client name c.watches in
-    if is_some rest && is_ticket_name name then with_scan
+    if is_some rest && is_ticket_name name then with_part
     (λ scan. (record c { watches = noted client name c.watches }, command.Watch number scan))
     (scan_words (more (text rest)))
     else Err fault.BadWords
@@ -87,13 +87,43 @@ end_line c client rest =
     ∷ [])
     (c, command.End (unwrap_or number 0) (text (more (text rest))))
 
--- `poll W`
-unfoldable pub poll_line : Context → ℕ → Option Bytes → Told
-poll_line c client rest =
+-- `W`: the number of a watch that an earlier line of the client made
+unfoldable pub watch_word : Context → ℕ → Option Bytes → Result ℕ ScriptFault
+watch_word c client rest =
     let number = number_of client (text rest) c.watches in
     meets ((is_some rest, fault.BadWords) ∷ (is_ticket_name (text rest), fault.BadWords)
     ∷ (is_some number, fault.UnknownName) ∷ [])
-    (c, command.Poll (unwrap_or number 0))
+    (unwrap_or number 0)
+
+-- `N`: how many mutations a push leaves out
+unfoldable pub skip_word : Bytes → Result ℕ ScriptFault
+skip_word t =
+    meets ((is_word t, fault.BadWords) ∷ (is_number 0 (2 ^ 64 - 1) t, fault.BadNumber) ∷ []) (digits_value 10 t)
+
+-- `push`, or `push N`: but for the oldest N
+abbrev pub push_line : Context → Option Bytes → Told
+push_line c None = Ok (c, command.Query (query.Push 0))
+push_line c (Some t) = with_part (λ n. (c, command.Query (query.Push n))) (skip_word t)
+
+-- `pulled get KEY`
+unfoldable pub pulled_get : Context → Option Bytes → Told
+pulled_get c rest = meets ((is_some rest, fault.BadWords) ∷ []) (c, command.Query (query.PulledGet (text rest)))
+
+-- `pulled scan PREFIX START LIMIT`
+unfoldable pub pulled_scan : Context → Option Bytes → Told
+pulled_scan c rest = with_part (λ scan. (c, command.Query (query.PulledScan scan))) (scan_words rest)
+
+-- what is asked of what the server last sent, by its name and what follows
+unfoldable pub pulled_command : Context → Bytes → Option Bytes → Told
+pulled_command c name rest =
+    if same_text name (codes "get") then pulled_get c rest
+    else if same_text name (codes "scan") then pulled_scan c rest
+    else Err fault.UnknownCommand
+
+-- `pulled NAME ..`: a missing name is unknown
+unfoldable pub pulled_line : Context → Option Bytes → Told
+pulled_line c None = Err fault.UnknownCommand
+pulled_line c (Some rest) = pulled_command c (word rest) (more rest)
 
 -- `mutate TIME MUTATOR ARGS`
 unfoldable pub mutate_line : Context → Option Bytes → Told
@@ -127,8 +157,9 @@ bare_command name =
     else if same_text name (codes "closed") then Some (command.Query query.Closed)
     else if same_text name (codes "pending") then Some (command.Query query.Pending)
     else if same_text name (codes "cookie") then Some (command.Query query.Cookie)
-    else if same_text name (codes "push") then Some (command.Query query.Push)
     else if same_text name (codes "refresh") then Some command.Refresh
+    else if same_text name (codes "moment") then Some command.Moment
+    else if same_text name (codes "slots") then Some command.Slots
     else None
 
 -- such a command, where there is one
@@ -140,6 +171,13 @@ told_bare c (Some said) rest = meets ((is_none rest, fault.BadWords) ∷ []) (c,
 unfoldable pub bare_line : Context → Bytes → Option Bytes → Told
 bare_line c name rest = told_bare c (bare_command name) rest
 
+-- what the server sent, and what it is to be sent; or a command that takes no words
+unfoldable pub sent_line : Context → Bytes → Option Bytes → Told
+sent_line c name rest =
+    if same_text name (codes "push") then push_line c rest
+    else if same_text name (codes "pulled") then pulled_line c rest
+    else bare_line c name rest
+
 -- a command that makes no ticket or watch and needs none, by its name and what follows
 unfoldable pub look_line : Context → Bytes → Option Bytes → Told
 look_line c name rest =
@@ -148,7 +186,14 @@ look_line c name rest =
     else if same_text name (codes "scan") then scan_line c rest
     else if same_text name (codes "learn") then learn_line c rest
     else if same_text name (codes "mutate") then mutate_line c rest
-    else bare_line c name rest
+    else sent_line c name rest
+
+-- what is done with a watch that an earlier line made; or another command
+unfoldable pub watched_line : Context → ℕ → Bytes → Option Bytes → Told
+watched_line c client name rest =
+    if same_text name (codes "poll") then with_part (λ n. (c, command.Poll n)) (watch_word c client rest)
+    else if same_text name (codes "unwatch") then with_part (λ n. (c, command.Unwatch n)) (watch_word c client rest)
+    else look_line c name rest
 
 -- a command of the client at a place, by its name and what follows
 unfoldable pub named_command : Context → ℕ → Bytes → Option Bytes → Told
@@ -156,8 +201,7 @@ named_command c client name rest =
     if same_text name (codes "begin") then begin_line c client rest
     else if same_text name (codes "end") then end_line c client rest
     else if same_text name (codes "watch") then watch_line c client rest
-    else if same_text name (codes "poll") then poll_line c client rest
-    else look_line c name rest
+    else watched_line c client name rest
 
 -- what a client's line has after its name: a missing command is unknown
 unfoldable pub command_of : Context → ℕ → Option Bytes → Told

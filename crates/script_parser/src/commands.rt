@@ -13,7 +13,7 @@ use std::alloc::AllocError;
 
 impl Parser {
     ghost use Rattle.script_parser.specs.Commands.{command_line, command_of, named_command};
-    ghost use Rattle.script_parser.specs.Commands.{begin_line, end_line, watch_line, poll_line};
+    ghost use Rattle.script_parser.specs.Commands.{begin_line, end_line, watch_line, watched_line, watch_word};
     ghost use Rattle.script_parser.specs.Inside.Faults.{Asks, Tells};
     ghost use Rattle.script_parser.specs.Names.{noted, number_made};
 
@@ -66,10 +66,7 @@ impl Parser {
         if name == "watch" {
             return self.watch(client, rest);
         }
-        if name == "poll" {
-            return self.poll(client, rest);
-        }
-        self.look(name, rest)
+        self.watched(client, name, rest)
     }
 
     #[tactic(auto, unfolding(crate::specs::Commands::begin_line))]
@@ -136,18 +133,33 @@ impl Parser {
         self.watches.note(self.alloc, client, name)
     }
 
-    #[tactic(auto, unfolding(crate::specs::Commands::poll_line))]
-    fn poll(&self, client: usize, rest: Option<&str>) -> Result<Command, LineFault>
-        ensures { Tells (poll_line (context_of self.now) client (option_copied rest.entry))
+    /// What is done with a watch that an earlier line made; or another command.
+    #[tactic(auto, unfolding(crate::specs::Commands::watched_line))]
+    fn watched(&self, client: usize, name: &str, rest: Option<&str>) -> Result<Command, LineFault>
+        ensures { Tells (watched_line (context_of self.now) client name.now (option_copied rest.entry))
             (context_of self.now) (context_of self.now) result }
+    {
+        if name == "poll" {
+            return Ok(Command::Poll(self.watch_of(client, rest)?));
+        }
+        if name == "unwatch" {
+            return Ok(Command::Unwatch(self.watch_of(client, rest)?));
+        }
+        self.look(name, rest)
+    }
+
+    /// The number of the watch that an earlier line of the client made.
+    #[tactic(auto, unfolding(crate::specs::Commands::watch_word))]
+    fn watch_of(&self, client: usize, rest: Option<&str>) -> Result<usize, ScriptFault>
+        ensures { result ≡ watch_word (context_of self.now) client (option_copied rest.entry) }
     {
         let name = self::rest(rest)?;
         if !is_ticket_name(name) {
-            return Err(LineFault::Script(ScriptFault::BadWords));
+            return Err(ScriptFault::BadWords);
         }
         let Some(number) = self.watches.number_of(client, name) else {
-            return Err(LineFault::Script(ScriptFault::UnknownName));
+            return Err(ScriptFault::UnknownName);
         };
-        Ok(Command::Poll(number))
+        Ok(number)
     }
 }

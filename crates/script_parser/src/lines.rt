@@ -43,7 +43,7 @@ pub(crate) fn one_word(rest: Option<&str>) -> Result<&str, ScriptFault>
 }
 
 #[tactic(auto, unfolding(crate::specs::Words::is_word))]
-fn is_word(text: &str) -> bool
+pub(crate) fn is_word(text: &str) -> bool
     ensures { result ≡ is_word text.now }
 {
     !text.is_empty() && !text.as_bytes().contains(&b' ')

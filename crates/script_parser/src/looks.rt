@@ -1,11 +1,11 @@
 //! The commands that make no ticket or watch and need none.
 ghost use Rattle.std.specs.Prelude.{◌≡◌};
 ghost use Rattle.std.specs.Option.{option_copied};
-ghost use Rattle.script_parser.specs.Commands.{bare_command};
+ghost use Rattle.script_parser.specs.Commands.{bare_command, skip_word};
 ghost use Rattle.script_parser.specs.Inside.Parsing.{context_of};
 
 use crate::faults::{LineFault, ScriptFault};
-use crate::lines::{is_client_name, no_words, number, rest, word_of};
+use crate::lines::{first_word, is_client_name, is_word, no_words, number, rest, word_of};
 use crate::parser::Parser;
 use crate::script::{Command, MutatorCall, Query};
 use crate::words::{json, scan_words};
@@ -15,7 +15,8 @@ const LATEST_TIME: u64 = 9_007_199_254_740_991;
 
 impl Parser {
     ghost use Rattle.script_parser.specs.Commands.{get_line, has_line, scan_line, mutate_line, learn_line, bare_line};
-    ghost use Rattle.script_parser.specs.Commands.{look_line};
+    ghost use Rattle.script_parser.specs.Commands.{look_line, sent_line, push_line, pulled_line, pulled_command};
+    ghost use Rattle.script_parser.specs.Commands.{pulled_get, pulled_scan};
     ghost use Rattle.script_parser.specs.Inside.Faults.{Tells};
 
     #[tactic(auto, unfolding(crate::specs::Commands::look_line))]
@@ -37,6 +38,21 @@ impl Parser {
         }
         if name == "mutate" {
             return self.mutate(rest);
+        }
+        self.sent(name, rest)
+    }
+
+    /// What the server sent, and what it is to be sent; or a command that takes no words.
+    #[tactic(auto, unfolding(crate::specs::Commands::sent_line))]
+    fn sent(&self, name: &str, rest: Option<&str>) -> Result<Command, LineFault>
+        ensures { Tells (sent_line (context_of self.now) name.now (option_copied rest.entry))
+            (context_of self.now) (context_of self.now) result }
+    {
+        if name == "push" {
+            return self.push(rest);
+        }
+        if name == "pulled" {
+            return self.pulled(rest);
         }
         self.bare(name, rest)
     }
@@ -66,6 +82,60 @@ impl Parser {
     {
         let scan = scan_words(self.alloc, rest)?;
         Ok(Command::Query(Query::Scan(scan)))
+    }
+
+    fn push(&self, rest: Option<&str>) -> Result<Command, LineFault>
+        ensures { Tells (push_line (context_of self.now) (option_copied rest.entry))
+            (context_of self.now) (context_of self.now) result }
+    {
+        let Some(rest) = rest else {
+            return Ok(Command::Query(Query::Push(0)));
+        };
+        Ok(Command::Query(Query::Push(skip_of(rest)?)))
+    }
+
+    #[tactic(auto, unfolding(crate::specs::Commands::pulled_line))]
+    fn pulled(&self, rest: Option<&str>) -> Result<Command, LineFault>
+        ensures { Tells (pulled_line (context_of self.now) (option_copied rest.entry))
+            (context_of self.now) (context_of self.now) result }
+    {
+        let Some(rest) = rest else {
+            return Err(LineFault::Script(ScriptFault::UnknownCommand));
+        };
+        let (name, rest) = first_word(rest);
+        self.pulled_command(name, rest)
+    }
+
+    #[tactic(auto, unfolding(crate::specs::Commands::pulled_command))]
+    fn pulled_command(&self, name: &str, rest: Option<&str>) -> Result<Command, LineFault>
+        ensures { Tells (pulled_command (context_of self.now) name.now (option_copied rest.entry))
+            (context_of self.now) (context_of self.now) result }
+    {
+        if name == "get" {
+            return self.pulled_get(rest);
+        }
+        if name == "scan" {
+            return self.pulled_scan(rest);
+        }
+        Err(LineFault::Script(ScriptFault::UnknownCommand))
+    }
+
+    #[tactic(auto, unfolding(crate::specs::Commands::pulled_get))]
+    fn pulled_get(&self, rest: Option<&str>) -> Result<Command, LineFault>
+        ensures { Tells (pulled_get (context_of self.now) (option_copied rest.entry))
+            (context_of self.now) (context_of self.now) result }
+    {
+        let key = Text::new(self.alloc, self::rest(rest)?)?;
+        Ok(Command::Query(Query::PulledGet(key)))
+    }
+
+    #[tactic(auto, unfolding(crate::specs::Commands::pulled_scan))]
+    fn pulled_scan(&self, rest: Option<&str>) -> Result<Command, LineFault>
+        ensures { Tells (pulled_scan (context_of self.now) (option_copied rest.entry))
+            (context_of self.now) (context_of self.now) result }
+    {
+        let scan = scan_words(self.alloc, rest)?;
+        Ok(Command::Query(Query::PulledScan(scan)))
     }
 
     #[tactic(auto, unfolding(crate::specs::Commands::mutate_line))]
@@ -117,6 +187,18 @@ impl Parser {
     }
 }
 
+/// How many mutations a push leaves out.
+#[tactic(auto, unfolding(crate::specs::Commands::skip_word))]
+fn skip_of(word: &str) -> Result<usize, ScriptFault>
+    ensures { result ≡ skip_word word.now }
+{
+    if !is_word(word) {
+        return Err(ScriptFault::BadWords);
+    }
+    let skip = number(word, 0, u64::MAX)?;
+    Ok(skip as usize)
+}
+
 /// A command that takes no words.
 #[tactic(auto, unfolding(crate::specs::Commands::bare_command))]
 fn bare_command(name: &str) -> Option<Command>
@@ -134,11 +216,14 @@ fn bare_command(name: &str) -> Option<Command>
     if name == "cookie" {
         return Some(Command::Query(Query::Cookie));
     }
-    if name == "push" {
-        return Some(Command::Query(Query::Push));
-    }
     if name == "refresh" {
         return Some(Command::Refresh);
+    }
+    if name == "moment" {
+        return Some(Command::Moment);
+    }
+    if name == "slots" {
+        return Some(Command::Slots);
     }
     None
 }

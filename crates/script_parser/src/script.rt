@@ -46,8 +46,12 @@ pub enum Query {
     Pending,
     /// The group's cookie.
     Cookie,
-    /// The body of a push.
-    Push,
+    /// The body of a push, but for the oldest so many pending mutations.
+    Push(usize),
+    /// What the server last sent at this key.
+    PulledGet(Text),
+    /// The rows of a scan of what the server last sent.
+    PulledScan(Scan),
 }
 
 /// What a client is to do.
@@ -64,12 +68,18 @@ pub enum Command {
     Mutate(MutatorCall),
     /// Read the client's last id anew.
     Refresh,
+    /// Tell the number of the moment.
+    Moment,
+    /// Count the slots that are free.
+    Slots,
     /// Learn what another client has seen, the one at this place.
     Learn(usize),
     /// Watch a scan, and keep the watch under this number. Watches are numbered as tickets are, apart from them.
     Watch(usize, Scan),
     /// Poll the watch of this number.
     Poll(usize),
+    /// Give the watch of this number up.
+    Unwatch(usize),
 }
 
 /// A call of a mutator.

@@ -6,5 +6,7 @@ mod Telling
 mod Grouping
 mod Sending
 mod Moves
+mod Replying
 pub mod Steady
-pub mod Plainly
+mod Plainly
+pub mod Lines

@@ -1,33 +1,31 @@
 -- A command beside which nobody changes the group is told what the group of one thread replies.
-use Rattle.std.proofs.Common.{◌≡◌, ◌⊎◌, ◌+◌, ◌++◌, ℕ, inl, inr, Bool, true, false, List, [], Option, Some, None, Result}
-use Rattle.std.proofs.Common.{Ok, Err, refl, sym, ap, subst, ◌∙◌, filter, length}
+use Rattle.std.proofs.Common.{◌≡◌, ◌+◌, ℕ, inl, inr, true, List, Option, Some, None, Result}
+use Rattle.std.proofs.Common.{Ok, Err, refl, sym, ap, subst, ◌∙◌, filter}
 use Rattle.std.proofs.lemmas.List.{append-nil}
-use Rattle.std.proofs.lemmas.Option.{get_or_from_slice_get, slice_get_within}
+use Rattle.std.specs.FinMap as finite
 use Rattle.std.specs.Prelude.{drop, option_map}
 use Rattle.group_history.specs.declared.changes.Change.{Change}
 use Rattle.group_history.specs.declared.scans.Scan.{Scan}
 use Rattle.group_history.specs.declared.refusals.Refusal.{Refusal}
 use Rattle.group_history.specs.declared.refusals.Refusal.TheVariants.{NoMemory}
-use Rattle.group_history.specs.declared.responses.Ended.{Ended}
 use Rattle.group_history.specs.Map.{Bytes}
 use Rattle.group_history.specs.Meaning.{Meanings}
 use Rattle.group_history.specs.Mutating.{mutate_reply}
 use Rattle.group_history.specs.Queries.{get_at, has_at, is_empty_at, view_rows}
 use Rattle.group_history.specs.Record.{after}
+use Rattle.group_history.specs.Scans.{rows_of}
 use Rattle.group_history.specs.State.{State, last_id, made}
-use Rattle.head_word.specs.Books.{record_of, with_change}
+use Rattle.head_word.specs.Books.{record_of}
+use Rattle.head_word.specs.Laws.{moment}
 use Rattle.head_word.specs.Marks.{Known, own}
-use Rattle.answered.specs.Answered.{IsLinearized, IsRefused, is_move, is_mute, is_resource_refusal, no_change}
+use Rattle.answered.specs.Answered.{IsLinearized, is_move, no_change}
 use Rattle.answered.specs.Changes.{change_made, change_read}
-use Rattle.group_steps.specs.Missing.{map_ok}
 use Rattle.pull_patch.specs.Grammar.{answer_to}
 use Rattle.push_body.specs.Bodies.{push_text}
 use Rattle.rebase.specs.Asking.{end_bytes_reply}
-use Rattle.rebase.specs.Calls.{asked_mutation, caller_of, change_of, ended_in, id_in, reply_to}
+use Rattle.rebase.specs.Calls.{asked_mutation, caller_of, change_of, reply_to}
 use Rattle.rebase.specs.Clients.{ClientState}
-use Rattle.rebase.proofs.CallLemmas.{caller_stays}
 use Rattle.rebase.specs.Queries.{asked_at, Asked as Begun}
-use Rattle.rebase.specs.Replies as replied
 use Rattle.rebase.specs.Watching.{poll_at}
 use Rattle.rebase.specs.declared.calls.Call.{Call as Changing}
 use Rattle.rebase.specs.declared.calls.Call.TheVariants as changing
@@ -40,92 +38,31 @@ use Rattle.client_desk.specs.declared.calls.Keep.TheVariants.{At as AtNumber}
 use Rattle.client_desk.specs.declared.faults.Fault.{Fault}
 use Rattle.client_desk.specs.declared.faults.Fault.TheVariants as fault
 use Rattle.client_desk.specs.declared.outcomes.Outcome.TheVariants.{Done, Faulty, Number}
-use Rattle.client_desk.specs.Answers.{AsksAs, At, Begins, ByClient, IsBegun, Lacks, Polls, Reads, Refreshes}
+use Rattle.client_desk.specs.Answers.{AsksAs, At, Begins, ByClient, CountsBy, CountsFree, IsBegun, Lacks, Polls}
+use Rattle.client_desk.specs.Answers.{Reads, Refreshes, TellsMoment, TellsMomentAs}
 use Rattle.client_desk.specs.Answers.{Asks as Queries}
-use Rattle.client_desk.specs.Answers.{Rule, Watches, absent, made_room, tries}
+use Rattle.client_desk.specs.Answers.{Rule, Unwatches, Watches, absent, made_room, tries}
 use Rattle.client_desk.specs.Inside.Sitting.{IsCalm}
 use Rattle.client_desk.specs.Calls.{AnswersCalm, MayAnswerAt}
 use Rattle.client_desk.specs.Kept.{IsNumberFor, kept_at}
 use Rattle.client_desk.specs.Learning.{LearnsAt, sight_of}
 use Rattle.client_desk.specs.Places.{PlaceState}
-use Rattle.client_desk.specs.Told.{Told, bytes_told, cookie_told, ended_told, id_told, is_told, pending_told}
-use Rattle.client_desk.specs.Told.{polled_told, replied_told, rows_told, tells, told, told_alone, value_told}
+use Rattle.client_desk.specs.Told.{Told, bytes_told, cookie_told, id_told, is_told, pending_told}
+use Rattle.client_desk.specs.Told.{polled_told, replied_told, rows_told, tells, told}
+use Rattle.client_desk.specs.Told.{told_alone, value_told}
 use Rattle.client_desk.specs.Waiting.{IsEndOf, MayAnswerWaiting, Waits}
 use Rattle.script_parser.specs.declared.script.Command.{Command}
 use Rattle.script_parser.specs.declared.script.Command.TheVariants as command
 use Rattle.script_parser.specs.declared.script.MutatorCall.{MutatorCall}
 use Rattle.script_parser.specs.declared.script.Query.{Query}
 use Rattle.script_parser.specs.declared.script.Query.TheVariants as query
-use Rattle.script_runner.specs.Answering.{IsToldAt, record_seen}
-use Rattle.script_runner.specs.Inside.Exact.{IsExact, IsExactAt}
-use Rattle.script_runner.specs.Commanding.{Asks, AsksQuery, Learns, MayTell, Player}
-use Rattle.script_runner.specs.Settling.{AreSteady, IsWhole}
-use Rattle.script_runner.specs.Inside.Records.{IsSeated}
-use Rattle.script_runner.specs.Plain.{IsDone, IsPlain, Plain, ended, if_kept, looked, mutated, plain, query_told}
+use Rattle.script_runner.specs.Answering.{moment_seen, record_seen}
+use Rattle.script_runner.specs.Inside.Exact.{IsExact}
+use Rattle.script_runner.specs.Commanding.{Asks, AsksQuery, Learns, MayTell}
+use Rattle.script_runner.specs.Plain.{IsDone, Plain, counted, ended, if_kept, looked, mutated, plain}
+use Rattle.script_runner.specs.Plain.{query_told}
 use Rattle.script_runner.specs.Sights.{sight_at}
-use Rattle.script_runner.proofs.Steady.{caught_up, told_exact}
-
--- A reply is the right one at the state after this record, and the record gains its change; or it is refused for want
--- of something, and the record stays.
-abbrev IsRight : {X : Type 0} → List Change → List Change → Result X Refusal → (Result X Refusal → Option Change)
-    → (State → Result X Refusal) → Type 0
-IsRight old new reply change right =
-    ((reply ≡ right (after old)) × (new ≡ old ++ with_change (change reply) []))
-    ⊎ ((e : Refusal) × (is_resource_refusal e ≡ true) × (reply ≡ Err e) × (new ≡ old))
-
-refuses : {X : Type 0} (means : Meanings) (seen : Option Known) (n : ℕ) (old new : Known) (e : Refusal)
-    (reply : Result X Refusal) (right : State → Result X Refusal) (o : Option Change) (b : Bool) → reply ≡ Err e
-    → is_mute e o ≡ b → IsExact means seen old new → IsRefused means n old new b e o (λ s. right s ≡ Err e)
-    → ((reply ≡ right (after (record_seen seen))) × (record_of new.log ≡ record_seen seen ++ with_change o []))
-    ⊎ ((f : Refusal) × (is_resource_refusal f ≡ true) × (reply ≡ Err f) × (record_of new.log ≡ record_seen seen))
-refuses means seen n old new e reply right None true is mute exact left = inr (e, mute, is, exact.none left.0)
-refuses means seen n old new e reply right (Some c) true is mute exact left = absurd (cc mute)
-refuses means seen n old new e reply right o false is mute exact answered =
-    inl (
-      is ∙ sym (subst (λ r. right (after r) ≡ Err e) (exact.point o answered.0 answered.1) answered.2),
-      exact.behind o answered.0 answered.1,
-    )
-
-replies : {X : Type 0} (means : Meanings) (seen : Option Known) (n : ℕ) (old new : Known) (reply : Result X Refusal)
-    (change : Result X Refusal → Option Change) (right : State → Result X Refusal) → IsExact means seen old new
-    → IsLinearized means n old new reply change right
-    → IsRight (record_seen seen) (record_of new.log) reply change right
-replies means seen n old new (Ok x) change right exact is =
-    inl (
-      sym (subst (λ r. right (after r) ≡ Ok x) (exact.point (change (Ok x)) is.0 is.1) is.2),
-      exact.behind (change (Ok x)) is.0 is.1,
-    )
-replies means seen n old new (Err e) change right exact is =
-    refuses means seen n old new e (Err e) right (change (Err e)) (is_mute e (change (Err e))) refl refl exact is
-
--- so it is told
-tells_right : {X : Type 0} (tell : X → Told) (is : Plain) (t : Told) (old new : List Change) (reply : Result X Refusal)
-    (change : Result X Refusal → Option Change) (right : State → Result X Refusal) → t ≡ tells tell reply
-    → tells tell (right (after old)) ≡ is.told → change (right (after old)) ≡ is.change
-    → IsRight old new reply change right → IsDone is t old new
-tells_right tell is t old new reply change right said told_is change_is (inl done) =
-    inl (
-      said ∙ ap (tells tell) done.0 ∙ told_is,
-      done.1 ∙ ap (λ c. old ++ with_change c []) (ap change done.0 ∙ change_is),
-    )
-tells_right tell is t old new reply change right said told_is change_is (inr want) =
-    inr ((want.0, want.1, said ∙ ap (tells tell) want.2), want.3)
-
-id_says : (r : Result ℕ Refusal) → tells replied_told (map_ok replied.id r) ≡ tells id_told r
-id_says (Ok n) = refl
-id_says (Err e) = refl
-
-id_means : (r : Result ℕ Refusal) → map_ok id_in (map_ok replied.id r) ≡ r
-id_means (Ok n) = refl
-id_means (Err e) = refl
-
-ended_says : (r : Result Ended Refusal) → tells replied_told (map_ok replied.ended r) ≡ tells ended_told r
-ended_says (Ok e) = refl
-ended_says (Err e) = refl
-
-ended_means : (r : Result Ended Refusal) → map_ok ended_in (map_ok replied.ended r) ≡ r
-ended_means (Ok e) = refl
-ended_means (Err e) = refl
+use Rattle.script_runner.proofs.Replying.{ended_means, ended_says, id_means, id_says, replies, tells_right}
 
 module _ (means : Meanings) (seen : Option Known) (c d : ClientState) (b a : PlaceState) (t : Told)
     (sat : b.client ≡ Some c) (calm : IsCalm b) (sits : a.client ≡ Some d)
@@ -134,7 +71,7 @@ module _ (means : Meanings) (seen : Option Known) (c d : ClientState) (b a : Pla
   now = after (record_seen seen)
 
   abbrev the : Command → Plain
-  the x = plain means now (caller_of c) b.tickets b.watches x
+  the x = plain means now (caller_of c) b.tickets b.watches (moment_seen (sight_at a)) x
 
   abbrev Is : Plain → Type 0
   Is is = IsDone is t (record_seen seen) (record_seen (sight_at a))
@@ -161,7 +98,7 @@ module _ (means : Meanings) (seen : Option Known) (c d : ClientState) (b a : Pla
   by_reply : {X : Type 0} (n : ℕ) (tell : X → Told) (is : Plain) (reply : Result X Refusal)
       (change : Result X Refusal → Option Change) (right : State → Result X Refusal) (next : ClientState)
       → a.client ≡ Some next → IsLinearized means n c.seat.mark next.seat.mark reply change right
-      → t ≡ tells tell reply → tells tell (right now) ≡ is.told → change (right now) ≡ is.change → Is is
+      → t ≡ tells tell reply → is.says (tells tell (right now)) → change (right now) ≡ is.change → Is is
   by_reply n tell is reply change right next there answer said told_is change_is =
       subst (IsDone is t (record_seen seen)) (sym (seen_by next there))
       (tells_right tell is t (record_seen seen) (record_of next.seat.mark.log) reply change right said told_is change_is
@@ -238,11 +175,21 @@ module _ (means : Meanings) (seen : Option Known) (c d : ClientState) (b a : Pla
   by_query query.Cookie call.Cookie asked h =
       by_calm call.Cookie (looked (cookie_told now.cookie)) (by_reading cookie_told (λ x s. s.cookie)) h
   by_query query.Cookie other asked h = absurd asked
-  by_query query.Push (call.Push skip) asked h =
+  by_query (query.Push n) (call.Push skip) asked h =
       subst (λ k. Is (looked (bytes_told (push_text c.group.identity (drop k now.pending))))) asked
       (by_calm (call.Push skip) (looked (bytes_told (push_text c.group.identity (drop skip now.pending))))
       (by_reading bytes_told (λ x s. push_text x.group.identity (drop skip s.pending))) h)
-  by_query query.Push other asked h = absurd asked
+  by_query (query.Push n) other asked h = absurd asked
+  by_query (query.PulledGet key) (call.PulledGet k) asked h =
+      subst (λ x. Is (looked (value_told (finite.get now.pulled x)))) asked
+      (by_calm (call.PulledGet k) (looked (value_told (finite.get now.pulled k.now)))
+      (by_reading value_told (λ x s. finite.get s.pulled k.now)) h)
+  by_query (query.PulledGet key) other asked h = absurd asked
+  by_query (query.PulledScan scan) (call.PulledScan k) asked h =
+      subst (λ x. Is (looked (rows_told (rows_of x now.pulled)))) asked
+      (by_calm (call.PulledScan k) (looked (rows_told (rows_of k.now now.pulled)))
+      (by_reading rows_told (λ x s. rows_of k.now s.pulled)) h)
+  by_query (query.PulledScan scan) other asked h = absurd asked
 
   by_begun : (n : ℕ) (keep : Keep) (reply : Result Begun Refusal) (next : ClientState) (p : PlaceState)
       → keep ≡ AtNumber n
@@ -325,6 +272,31 @@ module _ (means : Meanings) (seen : Option Known) (c d : ClientState) (b a : Pla
       (ap (λ (q : PlaceState). q.client) r.left) r.answer r.told refl refl) h
   by_refresh other asked h = absurd asked
 
+  by_moment : (made : Call) → Asks command.Moment made → MayAnswerWaiting means made b t a → Is (the command.Moment)
+  by_moment call.Moment asked h =
+      by_calm call.Moment (the command.Moment)
+      (λ done.
+      let m = by_client (TellsMoment means) (subst (λ o. TellsMomentAs means o b t a) calm.1 done) in
+      let there : a.client ≡ Some m.next = ap (λ (q : PlaceState). q.client) m.left in
+      let seen_at : moment_seen (sight_at a) ≡ moment m.next.seat.mark.log =
+      ap (λ o. moment_seen (option_map sight_of o)) there in
+      only_told (id_told (moment_seen (sight_at a))) (m.told ∙ ap id_told (sym seen_at))
+      (still m.next there m.looked.own)) h
+  by_moment other asked h = absurd asked
+
+  by_counts : (next : ClientState) → a.client ≡ Some next → CountsBy c t next → Is counted
+  by_counts next there r = elim r.told [
+    | inl is ↦ inl ((r.counts, is), still next there r.looked.own ∙ sym (append-nil (record_seen seen)))
+    | inr dry ↦ inr ((NoMemory, refl, dry), still next there r.looked.own)
+  ]
+
+  by_slots : (made : Call) → Asks command.Slots made → MayAnswerWaiting means made b t a → Is counted
+  by_slots call.Slots asked h =
+      by_calm call.Slots counted
+      (λ done.
+      let r = by_client CountsFree done in by_counts r.0 (ap (λ (q : PlaceState). q.client) r.2) r.1) h
+  by_slots other asked h = absurd asked
+
   by_watch : (n : ℕ) (scan : Scan) (made : Call) → Asks (command.Watch n scan) made → MayAnswerWaiting means made b t a
       → Is (the (command.Watch n scan))
   by_watch n scan (call.Watch keep k) asked h =
@@ -350,6 +322,15 @@ module _ (means : Meanings) (seen : Option Known) (c d : ClientState) (b a : Pla
       (by_client (λ x p. At (kept_at p.watches k) fault.NoWatch (λ watch. Polls means x k watch) p) done)) h)
   by_poll n other asked h = absurd asked
 
+  by_unwatch : (n : ℕ) (made : Call) → Asks (command.Unwatch n) made → MayAnswerWaiting means made b t a
+      → Is (the (command.Unwatch n))
+  by_unwatch n (call.Unwatch k) asked h =
+      subst (λ j. Is (the (command.Unwatch j))) asked
+      (by_calm (call.Unwatch k) (the (command.Unwatch k))
+      (by_kept (kept_at b.watches k) fault.NoWatch (Unwatches k) (λ watch. looked (told_alone Done))
+      (λ watch r. only_told (told_alone Done) r.0 (still c (ap (λ (q : PlaceState). q.client) r.1 ∙ sat) refl))) h)
+  by_unwatch n other asked h = absurd asked
+
   by_learning : (sight : Option Known) → Learns sight b a → record_seen (sight_at a) ≡ record_seen seen
   by_learning None h = still c (ap (λ (q : PlaceState). q.client) h ∙ sat) refl
   by_learning (Some other) h =
@@ -363,52 +344,10 @@ module _ (means : Meanings) (seen : Option Known) (c d : ClientState) (b a : Pla
   plainly sights (command.End n body) h = by_end n body h.made h.asked h.may
   plainly sights (command.Mutate m) h = by_mutation m h.made h.asked h.may
   plainly sights command.Refresh h = by_refresh h.made h.asked h.may
+  plainly sights command.Moment h = by_moment h.made h.asked h.may
+  plainly sights command.Slots h = by_slots h.made h.asked h.may
   plainly sights (command.Learn other) h =
       only_told (told_alone Done) h.told (by_learning (kept_at sights other) h.learnt)
   plainly sights (command.Watch n scan) h = by_watch n scan h.made h.asked h.may
   plainly sights (command.Poll n) h = by_poll n h.made h.asked h.may
-
--- a client that learns stays the same caller, with what it keeps
-keeps : (means : Meanings) (s : State) (x : Command) (seen : Option Known) (place mid : PlaceState) (c m : ClientState)
-    → place.client ≡ Some c → mid.client ≡ Some m → Learns seen place mid
-    → plain means s (caller_of m) mid.tickets mid.watches x ≡ plain means s (caller_of c) place.tickets place.watches x
-keeps means s x None place mid c m sat sits h =
-    let whole : Some m ≡ Some c = sym sits ∙ ap (λ (q : PlaceState). q.client) h ∙ sat in
-    let same : m ≡ c = cc whole in
-    ap (λ (o : ClientState). plain means s (caller_of o) mid.tickets mid.watches x) same
-    ∙ ap (λ (q : PlaceState). plain means s (caller_of c) q.tickets q.watches x) h
-keeps means s x (Some other) place mid c m sat sits h =
-    let l = subst (λ o. LearnsAt o other place mid) sat h in
-    let whole : Some l.next ≡ Some m = sym (ap (λ (q : PlaceState). q.client) l.left) ∙ sits in
-    let same : l.next ≡ m = cc whole in
-    ap (λ o. plain means s o mid.tickets mid.watches x)
-    (ap caller_of (sym same) ∙ caller_stays c l.next l.same.0 l.same.1)
-    ∙ ap (λ (q : PlaceState). plain means s (caller_of c) q.tickets q.watches x) l.left
-
--- So a line is, that is exact.
-pub plain_line : (means : Meanings) (sights : List (Option Known)) (x : Command) (seen : Option Known)
-    (place mid next : PlaceState) (c : ClientState) (t : Told) → place.client ≡ Some c → IsCalm place
-    → Learns seen place mid → MayTell means sights x mid t next → IsExactAt means seen mid next
-    → IsPlain means x place t (record_seen seen) (record_seen (sight_at next))
-plain_line means sights x seen place mid next c t sat calm learnt may exact =
-    let k = caught_up c seen place mid sat calm learnt in
-    record {
-      client = c;
-      sits = sat;
-      done = subst (λ is. IsDone is t (record_seen seen) (record_seen (sight_at next)))
-          (keeps means (after (record_seen seen)) x seen place mid c exact.old sat exact.sat learnt)
-          (plainly means seen exact.old exact.new mid next t exact.sat k.calm exact.sits exact.exact sights x may);
-    }
-
--- and so is each line of clients that made all moves
-pub told_plain : (means : Meanings) (sights : List (Option Known)) (seen : Option Known) (place : ℕ) (l : ℕ × Command)
-    (before : List Player) (text : Bytes) (after : List Player) (now : Option Known)
-    (told : IsToldAt means sights seen place l before text after now) → AreSteady before seen → IsWhole after now
-    → IsPlain means l.1 told.client.place told.may.t (record_seen seen) (record_seen now)
-told_plain means sights seen place l before text after now h was all =
-    let below = slice_get_within before place h.client h.at in
-    let seated = subst (λ (p : Player). IsSeated (length before) was.commit place p.place)
-    (get_or_from_slice_get before place h.client h.client h.at) (was.seated place h.client below) in
-    subst (λ o. IsPlain means l.1 h.client.place h.may.t (record_seen seen) (record_seen o)) (sym h.sees)
-    (plain_line means sights l.1 seen h.client.place h.mid h.next.place seated.client h.may.t seated.sits seated.calm
-    h.learnt h.may.may (told_exact means sights seen place l before text after now h was all))
+  plainly sights (command.Unwatch n) h = by_unwatch n h.made h.asked h.may

@@ -37,7 +37,9 @@ sits_no_query query.Empty id h = h
 sits_no_query query.Closed id h = h
 sits_no_query query.Pending id h = h
 sits_no_query query.Cookie id h = h
-sits_no_query query.Push id h = h
+sits_no_query (query.Push n) id h = h
+sits_no_query (query.PulledGet key) id h = h
+sits_no_query (query.PulledScan scan) id h = h
 
 leaves_no_query : (q : Query) → AsksQuery q call.Leave → ⊥
 leaves_no_query (query.Get key) h = h
@@ -47,7 +49,9 @@ leaves_no_query query.Empty h = h
 leaves_no_query query.Closed h = h
 leaves_no_query query.Pending h = h
 leaves_no_query query.Cookie h = h
-leaves_no_query query.Push h = h
+leaves_no_query (query.Push n) h = h
+leaves_no_query (query.PulledGet key) h = h
+leaves_no_query (query.PulledScan scan) h = h
 
 sits_none : (c : Command) (id : _) → Asks c (call.Sit id) → ⊥
 sits_none (command.Query q) id h = sits_no_query q id h
@@ -55,9 +59,12 @@ sits_none (command.Begin n) id h = h
 sits_none (command.End n body) id h = h
 sits_none (command.Mutate m) id h = h
 sits_none command.Refresh id h = h
+sits_none command.Moment id h = h
+sits_none command.Slots id h = h
 sits_none (command.Learn place) id h = h
 sits_none (command.Watch n scan) id h = h
 sits_none (command.Poll n) id h = h
+sits_none (command.Unwatch n) id h = h
 
 leaves_none : (c : Command) → Asks c call.Leave → ⊥
 leaves_none (command.Query q) h = leaves_no_query q h
@@ -65,9 +72,12 @@ leaves_none (command.Begin n) h = h
 leaves_none (command.End n body) h = h
 leaves_none (command.Mutate m) h = h
 leaves_none command.Refresh h = h
+leaves_none command.Moment h = h
+leaves_none command.Slots h = h
 leaves_none (command.Learn place) h = h
 leaves_none (command.Watch n scan) h = h
 leaves_none (command.Poll n) h = h
+leaves_none (command.Unwatch n) h = h
 
 begins_no_query : (q : Query) → AsksQuery q call.BeginRead → ⊥
 begins_no_query (query.Get key) h = h
@@ -77,7 +87,9 @@ begins_no_query query.Empty h = h
 begins_no_query query.Closed h = h
 begins_no_query query.Pending h = h
 begins_no_query query.Cookie h = h
-begins_no_query query.Push h = h
+begins_no_query (query.Push n) h = h
+begins_no_query (query.PulledGet key) h = h
+begins_no_query (query.PulledScan scan) h = h
 
 begins_none : (c : Command) → Asks c call.BeginRead → ⊥
 begins_none (command.Query q) h = begins_no_query q h
@@ -85,9 +97,12 @@ begins_none (command.Begin n) h = h
 begins_none (command.End n body) h = h
 begins_none (command.Mutate m) h = h
 begins_none command.Refresh h = h
+begins_none command.Moment h = h
+begins_none command.Slots h = h
 begins_none (command.Learn place) h = h
 begins_none (command.Watch n scan) h = h
 begins_none (command.Poll n) h = h
+begins_none (command.Unwatch n) h = h
 
 -- a place with another client is as calm
 pub calm_with : (before after : PlaceState) (c : ClientState) → after ≡ with_client c before → IsCalm before

@@ -4,6 +4,7 @@ use Rattle.group_history.specs.declared.changes.Change.{Change}
 use Rattle.group_history.specs.Map.{Bytes}
 use Rattle.group_history.specs.Meaning.{Meanings}
 use Rattle.head_word.specs.Books.{record_of}
+use Rattle.head_word.specs.Laws.{moment}
 use Rattle.head_word.specs.Marks.{Known}
 use Rattle.client_desk.specs.Places.{PlaceState}
 use Rattle.script_parser.specs.declared.script.Command.{Command}
@@ -46,3 +47,8 @@ pub record IsToldAt (means : Meanings) (sights : List (Option Known)) (seen : Op
 abbrev pub record_seen : Option Known → List Change
 record_seen None = []
 record_seen (Some seen) = record_of seen.log
+
+-- the number of the moment of what was seen
+abbrev pub moment_seen : Option Known → ℕ
+moment_seen None = 0
+moment_seen (Some seen) = moment seen.log

@@ -34,7 +34,9 @@ AsksQuery query.Empty call.Empty = ⊤
 AsksQuery query.Closed call.Closed = ⊤
 AsksQuery query.Pending call.Pending = ⊤
 AsksQuery query.Cookie call.Cookie = ⊤
-AsksQuery query.Push (call.Push skip) = skip ≡ 0
+AsksQuery (query.Push n) (call.Push skip) = skip ≡ n
+AsksQuery (query.PulledGet key) (call.PulledGet k) = k.now ≡ key
+AsksQuery (query.PulledScan scan) (call.PulledScan s) = s.now ≡ scan
 AsksQuery q other = ⊥
 
 -- the mutation that a command asks for
@@ -50,8 +52,11 @@ Asks (command.Begin n) (call.Begin keep) = keep ≡ At n
 Asks (command.End n body) (call.End m bytes) = (m ≡ n) × (bytes.now ≡ body)
 Asks (command.Mutate m) (call.Mutate n) = AsksMutation m n
 Asks command.Refresh call.Refresh = ⊤
+Asks command.Moment call.Moment = ⊤
+Asks command.Slots call.Slots = ⊤
 Asks (command.Watch n scan) (call.Watch keep s) = (keep ≡ At n) × (s.now ≡ scan)
 Asks (command.Poll n) (call.Poll m) = m ≡ n
+Asks (command.Unwatch n) (call.Unwatch m) = m ≡ n
 Asks c other = ⊥
 
 -- the client learns this, where anything was seen

@@ -21,7 +21,9 @@ query_word (query.Get key) = codes "value "
 query_word (query.Scan scan) = codes "rows "
 query_word query.Pending = codes "pending "
 query_word query.Cookie = codes "cookie "
-query_word query.Push = codes "push "
+query_word (query.Push n) = codes "push "
+query_word (query.PulledGet key) = codes "value "
+query_word (query.PulledScan scan) = codes "rows "
 query_word other = []
 
 -- and of a command
@@ -31,9 +33,12 @@ done_word (command.Begin n) = codes "pull "
 done_word (command.End n body) = codes "applied"
 done_word (command.Mutate m) = codes "id "
 done_word command.Refresh = codes "last "
+done_word command.Moment = codes "moment "
+done_word command.Slots = codes "slots "
 done_word (command.Learn place) = codes "learnt"
 done_word (command.Watch n scan) = codes "watching"
 done_word (command.Poll n) = codes "new "
+done_word (command.Unwatch n) = codes "unwatched"
 
 -- of one for which there is nothing
 abbrev pub nothing_word : Command → Bytes
@@ -41,10 +46,12 @@ nothing_word (command.End n body) = codes "same"
 nothing_word (command.Poll n) = codes "unchanged"
 nothing_word other = codes "none"
 
--- the number that is told, where it is an id; those of tickets and watches are not printed, as scripts have names
+-- the number that is told, where it is an id or a moment's; those of tickets and watches are not printed, as scripts
+-- have names
 abbrev pub number_text : Command → ℕ → Bytes
 number_text (command.Mutate m) n = decimal n
 number_text command.Refresh n = decimal n
+number_text command.Moment n = decimal n
 number_text other n = []
 
 abbrev pub bool_text : Bool → Bytes

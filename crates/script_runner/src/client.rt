@@ -52,11 +52,14 @@ impl<M: Mutators + Drop> ScriptClient<M> {
             }
             Command::Mutate(asked) => self.make(rt, command, Call::Mutate(mutate_of(asked)), bytes),
             Command::Refresh => self.make(rt, command, Call::Refresh, bytes),
+            Command::Moment => self.make(rt, command, Call::Moment, bytes),
+            Command::Slots => self.make(rt, command, Call::Slots, bytes),
             Command::Learn(place) => self.learn(sights, *place),
             Command::Watch(number, scan) => {
                 self.make(rt, command, Call::Watch(Keep::At(*number), scan), bytes)
             }
             Command::Poll(number) => self.make(rt, command, Call::Poll(*number), bytes),
+            Command::Unwatch(number) => self.make(rt, command, Call::Unwatch(*number), bytes),
         }
     }
 
@@ -112,6 +115,8 @@ fn call_of(query: &Query) -> Call<'_>
         Query::Closed => Call::Closed,
         Query::Pending => Call::Pending,
         Query::Cookie => Call::Cookie,
-        Query::Push => Call::Push(0),
+        Query::Push(skip) => Call::Push(*skip),
+        Query::PulledGet(key) => Call::PulledGet(key.as_str()),
+        Query::PulledScan(scan) => Call::PulledScan(scan),
     }
 }

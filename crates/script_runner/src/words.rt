@@ -16,11 +16,11 @@ fn query_word(query: &Query) -> &'static str
     ensures { result.now ≡ query_word query.now }
 {
     match query {
-        Query::Get(_) => "value ",
-        Query::Scan(_) => "rows ",
+        Query::Get(_) | Query::PulledGet(_) => "value ",
+        Query::Scan(_) | Query::PulledScan(_) => "rows ",
         Query::Pending => "pending ",
         Query::Cookie => "cookie ",
-        Query::Push => "push ",
+        Query::Push(_) => "push ",
         Query::Has(_) | Query::Empty | Query::Closed => "",
     }
 }
@@ -35,9 +35,12 @@ fn done_word(command: &Command) -> &'static str
         Command::End(_, _) => "applied",
         Command::Mutate(_) => "id ",
         Command::Refresh => "last ",
+        Command::Moment => "moment ",
+        Command::Slots => "slots ",
         Command::Learn(_) => "learnt",
         Command::Watch(_, _) => "watching",
         Command::Poll(_) => "new ",
+        Command::Unwatch(_) => "unwatched",
     }
 }
 
@@ -59,12 +62,12 @@ fn print_number(out: &mut Vec<u8>, number: u64) -> Result<(), AllocError>
     out.extend_from_slice(text.as_bytes())
 }
 
-// The number that a command told, where it is an id.
+// The number that a command told, where it is an id or a moment's.
 fn print_id(command: &Command, number: u64, out: &mut Vec<u8>) -> Result<(), AllocError>
     ensures { OnOk result (out.new.items ≡ out.old.items ++ number_text command.now number) }
 {
     match command {
-        Command::Mutate(_) | Command::Refresh => print_number(out, number),
+        Command::Mutate(_) | Command::Refresh | Command::Moment => print_number(out, number),
         _ => Ok(()),
     }
 }

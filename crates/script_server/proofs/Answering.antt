@@ -14,7 +14,7 @@ use Rattle.script_parser.specs.Kept.{bare, new_phase, without_lines}
 use Rattle.script_parser.specs.Reading.{AsksFor, bytes_said_with}
 use Rattle.script_parser.specs.Scripts.{line_said}
 use Rattle.script_runner.specs.Phases.{all_sights}
-use Rattle.script_runner.proofs.Plainly.{told_plain}
+use Rattle.script_runner.proofs.Lines.{told_plain}
 use Rattle.script_server.specs.Answers.{Answers, AnswersBy, BeginsPhase, Does, Opens, Says, given_before}
 use Rattle.script_server.specs.Answers.{behind_rules, given_in, ok_text, rules_given}
 use Rattle.script_server.specs.Standing.{Standing, means_in}

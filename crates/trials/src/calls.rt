@@ -17,8 +17,9 @@ pub(crate) struct Turn<'a, R> {
     pub(crate) is_marked: bool,
 }
 
-fn query_call(query: &Query) -> Call<'_> {
-    match query {
+/// The call that a query is; none where no call asks it.
+fn query_call(query: &Query) -> Option<Call<'_>> {
+    let call = match query {
         Query::Get(key) => Call::Get(key),
         Query::Has(key) => Call::Has(key),
         Query::Scan(scan) => Call::Scan(scan),
@@ -26,8 +27,15 @@ fn query_call(query: &Query) -> Call<'_> {
         Query::Closed => Call::Closed,
         Query::Pending => Call::Pending,
         Query::Cookie => Call::Cookie,
-        Query::Push => Call::PushBody,
-    }
+        Query::Push(0) => Call::PushBody,
+        Query::Push(_) | Query::PulledGet(_) | Query::PulledScan(_) => return None,
+    };
+    Some(call)
+}
+
+/// Whether a query is one that no call asks.
+pub(crate) fn is_no_call(query: &Query) -> bool {
+    query_call(query).is_none()
 }
 
 fn mutate_of(call: &MutatorCall) -> Mutate<'_> {
@@ -45,7 +53,7 @@ pub(crate) fn call_of<'a>(
     body: &'a [u8],
 ) -> Option<Call<'a>> {
     match command {
-        Command::Query(query) => Some(query_call(query)),
+        Command::Query(query) => query_call(query),
         Command::Mutate(call) => Some(Call::Mutate(mutate_of(call))),
         Command::End(number, _) => Some(Call::EndPull(tickets.get(number)?, body)),
         Command::Refresh => Some(Call::Refresh),

@@ -1,5 +1,5 @@
 //! A trial over the group of one thread: a list of calls over a map.
-use crate::calls::{Tickets, Turn, body_of, call_of, keep_ticket};
+use crate::calls::{Tickets, Turn, body_of, call_of, is_no_call, keep_ticket};
 use crate::failed::Failed;
 use crate::looks::{all_rows, say_change, say_seen};
 use crate::marks::{begins, ends};
@@ -14,7 +14,7 @@ use pull_patch::read_response;
 use push_body::{Identity, pull_bytes, push_bytes};
 use rebase::{Call, Mutate, Polled, Reply, Rows, Ticket};
 use script_mutators::ScriptMutators;
-use script_parser::{ClientLine, Command, uuid_text};
+use script_parser::{ClientLine, Command, Query, uuid_text};
 use std::alloc::{AllocError, Global};
 use std::collections::BTreeMap;
 
@@ -71,8 +71,11 @@ impl Plain {
         }
     }
 
-    fn push(&self) -> Result<Vec<u8>, Refusal> {
-        push_bytes(self.alloc, &self.identity, self.group.pending())
+    /// The body of a push, but for the oldest so many mutations.
+    fn push(&self, skip: usize) -> Result<Vec<u8>, Refusal> {
+        let pending = self.group.pending();
+        let skip = skip.min(pending.len());
+        push_bytes(self.alloc, &self.identity, &pending[skip..])
     }
 
     fn begin(&self) -> Result<Ticket, Refusal> {
@@ -96,7 +99,7 @@ impl Plain {
     fn call(&mut self, id: &Text, last: u64, call: Call<'_>) -> Answer {
         match call {
             Call::Refresh => Ok(Reply::Id(self.group.last(id))),
-            Call::PushBody => self.push().map(Reply::Body),
+            Call::PushBody => self.push(0).map(Reply::Body),
             Call::BeginPull => self.begin().map(Reply::Ticket),
             Call::Mutate(it) => self.mutate(id, last, it).map(Reply::Id),
             Call::EndPull(ticket, body) => self.end(ticket, body).map(Reply::Ended),
@@ -161,6 +164,13 @@ impl Player {
             Ok(Some(polled)) => out.say_polled(&Ok(polled)),
             Ok(None) => out.say("no watch"),
             Err(refusal) => out.say_refusal(refusal),
+        }
+    }
+
+    fn unwatch(&mut self, number: usize, out: &mut Said) {
+        match self.watches.remove(&number) {
+            Some(_) => out.say("unwatched"),
+            None => out.say("no watch"),
         }
     }
 
@@ -238,8 +248,11 @@ impl Player {
     ) -> bool {
         match command {
             Command::Learn(_) => out.say("learnt"),
+            Command::Moment | Command::Slots => out.say("nothing of a trial"),
             Command::Watch(number, scan) => self.say_watch(*number, scan, out),
             Command::Poll(number) => self.say_poll(plain, *number, out),
+            Command::Unwatch(number) => self.unwatch(*number, out),
+            Command::Query(query) if is_no_call(query) => say_asked(plain, query, out),
             command => return self.call(it, plain, command, way, out),
         }
         false
@@ -277,6 +290,14 @@ fn players_of(alloc: Global, lines: &[ClientLine]) -> Result<Vec<Player>, AllocE
         players.push(player_of(alloc, line)?)?;
     }
     Ok(players)
+}
+
+/// Says the answer to what no call asks.
+fn say_asked(plain: &Plain, query: &Query, out: &mut Said) {
+    match query {
+        Query::Push(skip) => out.say_answer("", &plain.push(*skip).map(Reply::Body)),
+        _ => out.say("nothing of a plain group"),
+    }
 }
 
 /// Does what a line says, and says the reply.

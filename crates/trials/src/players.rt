@@ -3,10 +3,11 @@ ghost use Rattle.std.specs.Prelude.{◌≡◌, ◌<◌, IfOk, length};
 ghost use Rattle.std.specs.Option.{ForSome};
 ghost use Rattle.commit_graph.specs.Seats.{IsSameSeat, IsSeatOf};
 
-use crate::calls::{Tickets, Turn, body_of, call_of, keep_ticket};
+use crate::calls::{Tickets, Turn, body_of, call_of, is_no_call, keep_ticket};
 use crate::counts::Counted;
 use crate::looks::{all_rows, look, say_change};
 use crate::marks::{begins, ends};
+use crate::readers::asked_by;
 use crate::replies::{Answer, Said, id_word, is_change};
 use crate::rows::{Manner, ONCE, Way};
 use chunk_slots::Store;
@@ -260,6 +261,28 @@ impl<'g, S: Store<ScriptMutators> + Drop> Player<'g, S> {
         }
     }
 
+    /// Gives the watch of a number up, where there is one.
+    fn unwatch(&mut self, number: usize, out: &mut Said) {
+        let is_first = has_number(&self.first, number);
+        if !is_first && !has_number(&self.second, number) {
+            return out.say("no watch");
+        }
+        if is_first {
+            self.first = None;
+        } else {
+            self.second = None;
+        }
+        out.say("unwatched");
+    }
+
+    /// Asks what no call asks.
+    fn ask<R>(&mut self, it: &Turn<'_, R>, query: &Query, tries: u32, out: &mut Said) {
+        begins(it.rt, it.is_marked);
+        let answer = asked_by(&mut self.client, query, tries);
+        ends(it.rt, it.is_marked);
+        out.say_answer("", &answer);
+    }
+
     /// Learns what its looker has seen: that looked last, so it is all that others have seen.
     fn learn<R>(&mut self, it: &Turn<'_, R>, out: &mut Said) {
         begins(it.rt, it.is_marked);
@@ -275,7 +298,10 @@ impl<'g, S: Store<ScriptMutators> + Drop> Player<'g, S> {
             Command::Learn(_) => self.learn(it, out),
             Command::Watch(number, scan) => self.watch(*number, scan, out),
             Command::Poll(number) => self.poll(it, *number, way.tries, out),
+            Command::Unwatch(number) => self.unwatch(*number, out),
+            Command::Moment | Command::Slots => out.say("nothing of a trial"),
             Command::Query(Query::Scan(scan)) => self.scan(it, scan, way.tries, out),
+            Command::Query(query) => self.ask(it, query, way.tries, out),
             _ => {}
         }
     }
@@ -289,8 +315,10 @@ impl<'g, S: Store<ScriptMutators> + Drop> Player<'g, S> {
         out: &mut Said,
     ) -> bool {
         let is_other = match command {
-            Command::Learn(_) | Command::Watch(..) | Command::Poll(_) => true,
+            Command::Learn(_) | Command::Moment | Command::Slots => true,
+            Command::Watch(..) | Command::Poll(_) | Command::Unwatch(_) => true,
             Command::Query(Query::Scan(_)) => way.manner == Manner::Into,
+            Command::Query(query) => is_no_call(query),
             _ => false,
         };
         if is_other {

@@ -1,11 +1,13 @@
 //! Readers that a trial keeps: each is opened, asked and closed under its name.
+ghost use Rattle.commit_graph.specs.Seats.{IsSameSeat};
+
 use crate::calls::Turn;
 use crate::marks::{begins, ends};
 use crate::players::Written;
 use crate::replies::{Answer, Said};
 use crate::rows::{Manner, Way};
 use chunk_slots::Store;
-use group_history::{Refusal, Scan};
+use group_history::{Refusal, Scan, Text};
 use rebase::{Client, ReadTx, Reply};
 use script_mutators::ScriptMutators;
 use script_parser::Query;
@@ -120,10 +122,56 @@ fn say_scanned<R, S: Store<ScriptMutators>>(
     written.say(scanned, out);
 }
 
+/// Asks a client what no call asks.
+pub(crate) fn asked_by<S: Store<ScriptMutators>>(
+    client: &mut Client<ScriptMutators, S>,
+    query: &Query,
+    tries: u32,
+) -> Answer
+    ensures { IsSameSeat client.old.seat client.new.seat }
+{
+    match query {
+        Query::Push(skip) => client.push_body(*skip, tries).map(Reply::Body),
+        query => read_once(client, query, tries),
+    }
+}
+
+/// Asks a client a query by a reading that lasts as long.
+fn read_once<S: Store<ScriptMutators>>(
+    client: &mut Client<ScriptMutators, S>,
+    query: &Query,
+    tries: u32,
+) -> Answer
+    ensures { IsSameSeat client.old.seat client.new.seat }
+{
+    let tx = client.read(tries)?;
+    let answer = asked(&tx, query);
+    tx.close();
+    answer
+}
+
+fn pulled_value<S: Store<ScriptMutators>>(
+    tx: &ReadTx<'_, ScriptMutators, S>,
+    key: &Text,
+) -> Answer {
+    let mut pulled = tx.pulled()?;
+    Ok(Reply::Value(pulled.get(key.as_str())?))
+}
+
+fn pulled_rows<S: Store<ScriptMutators>>(
+    tx: &ReadTx<'_, ScriptMutators, S>,
+    scan: &Scan,
+) -> Answer {
+    let mut pulled = tx.pulled()?;
+    Ok(Reply::Rows(pulled.scan(scan)?))
+}
+
 fn asked<S: Store<ScriptMutators>>(tx: &ReadTx<'_, ScriptMutators, S>, query: &Query) -> Answer {
     match query {
         Query::Get(key) => tx.get(key.as_str()).map(Reply::Value),
         Query::Scan(scan) => tx.scan(scan).map(Reply::Rows),
+        Query::PulledGet(key) => pulled_value(tx, key),
+        Query::PulledScan(scan) => pulled_rows(tx, scan),
         Query::Pending => tx.pending().map(Reply::Pending),
         Query::Cookie => tx.cookie().map(Reply::Cookie),
         query => tells(tx, query).map(Reply::Is),
