@@ -111,11 +111,13 @@ class Watch:
         self._rows, self._moment = rows, moment
         told, self._told = self._told, {}
         # What was told since, and isn't polled now, is as it was at the last poll; where all rows are it is gone.
-        new = {} if is_whole else {key: diff.old_value for key, diff in told.items() if diff.op != "add"}
-        new.update((diff.key, diff.new_value) for diff in polled)
+        new: dict[str, Json] = {}
+        if not is_whole:
+            new.update((key, diff.old_value) for key, diff in told.items() if diff.op != "add")
         for diff in polled:
-            if diff.op == "del":
-                del new[diff.key]
+            new.pop(diff.key, None)
+            if diff.op != "del":
+                new[diff.key] = diff.new_value
         return _laid(rows, {*rows, *new} if is_whole else {*told, *(diff.key for diff in polled)}, new)
 
     def _some(self, ask: Ask, rows: dict[str, Json], keys: set[str]) -> list[Diff]:
