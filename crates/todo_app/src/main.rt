@@ -1,10 +1,8 @@
 //! A to-do list that two users keep, each on a thread of its own. What it prints is the same whatever their schedule.
 #![tactic(auto)]
 
-mod mutators;
 mod opening;
 mod server;
-mod todos;
 mod user;
 
 use opening::List;

@@ -1,11 +1,11 @@
 //! The group of the list, and its users.
 ghost use Rattle.rebase.specs.Clients.{AreSeatsOf};
 
-use crate::mutators::Todos;
 use crate::server::Server;
 use crate::user::{TRIES, User};
 use rebase::{Arena, Config, Group, Identity, Refusal, Seats, Uuid};
 use std::alloc::Global;
+use todo_mutators::Todos;
 
 const SLOTS: u32 = 64;
 

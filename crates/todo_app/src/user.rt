@@ -3,10 +3,10 @@
 //! A watch is polled by clients of its own group alone; that it is one of the client's is kept by the type.
 ghost use Rattle.std.specs.Prelude.{◌≡◌};
 
-use crate::mutators::Todos;
 use crate::server::Server;
 use rebase::{Arena, Client, Ended, Json, Polled, Refusal, Scan, Start, Text, Watch};
 use std::alloc::Global;
+use todo_mutators::Todos;
 
 /// How often a call begins anew that others are in the way of.
 pub(crate) const TRIES: u32 = 1000;

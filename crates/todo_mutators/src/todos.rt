@@ -4,9 +4,9 @@ ghost use Rattle.std.specs.FinMap as finite;
 ghost use Rattle.serde_json.specs.View.{view as data_of};
 ghost use Rattle.group_history.specs.Stops.{MayStop};
 ghost use Rattle.group_history.specs.declared.mutators.Stop.TheVariants.{NoMemory};
-ghost use Rattle.todo_app.specs.Todos as spec;
+ghost use Rattle.todo_mutators.specs.Todos as spec;
 
-use rebase::{Json, Stop, WriteView};
+use group_history::{Json, Stop, WriteView};
 use serde_json::{Value, json};
 use std::alloc::{AllocError, Global};
 use std::marker::Model;
@@ -20,7 +20,7 @@ pub(crate) struct Todo {
 
 impl Model for Todo {
     ghost use Rattle.std.specs.Prelude.{string_bytes};
-    ghost use Rattle.todo_app.specs.Todos.{Todo};
+    ghost use Rattle.todo_mutators.specs.Todos.{Todo};
 
     ghost Value = { Todo };
 

@@ -6,16 +6,16 @@ ghost use Rattle.std.specs.Prelude.{◌≡◌, IfOk, IfErr};
 ghost use Rattle.serde_json.specs.View.{view as data_of};
 ghost use Rattle.group_history.specs.Ran.{RunsAs};
 ghost use Rattle.group_history.specs.Stops.{MayStop};
-ghost use Rattle.todo_app.specs.Todos as spec;
+ghost use Rattle.todo_mutators.specs.Todos as spec;
 
 use crate::todos::{key_of, put, text_in, todo_in, written};
-use rebase::{Json, Means, Mutators, Ran, Reason, Stop, Update, WriteView};
+use group_history::{Json, Means, Mutators, Ran, Reason, Stop, Update, WriteView};
 use serde_json::Value;
 use std::alloc::Global;
 
 /// The mutators of a to-do list. Any name but theirs is unknown.
 #[derive(Clone, Copy)]
-pub(crate) struct Todos;
+pub struct Todos;
 
 impl Means for Todos {
     ghost means = { spec.todo_means };
