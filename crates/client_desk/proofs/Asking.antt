@@ -156,12 +156,21 @@ written_told writes v b a next t same is done =
     (at_some v.asking fault.NotAsked (WritesDraft writes) a v t (with_asking next v) is (next, done, refl))
 
 -- one write more is done behind those before it
-pub one_more : (ws : List Write) (w : Write) (m : Entries) → written (ws ++ w ∷ []) m ≡ wrote w (written ws m)
+one_more : (ws : List Write) (w : Write) (m : Entries) → written (ws ++ w ∷ []) m ≡ wrote w (written ws m)
 one_more [] w m = refl
 one_more (x ∷ ws) w m = one_more ws w (wrote x m)
 
-pub taken_more : (ws : List Write) (n : ℕ) (w : Write) (m : Entries) → n < length ws → w ≡ get_or ws n w
+-- of the first n + 1
+taken_more : (ws : List Write) (n : ℕ) (w : Write) (m : Entries) → n < length ws → w ≡ get_or ws n w
     → written (take (n + 1) ws) m ≡ wrote w (written (take n ws) m)
 taken_more ws n w m within is =
     ap (λ xs. written xs m) (take_more ws n w within ∙ ap (λ x. take n ws ++ x ∷ []) (sym is))
     ∙ one_more (take n ws) w m
+
+-- and so of a run whose map the first n were written to
+pub one_done : (ws : List Write) (n : ℕ) (w : Write) (was now new : UnderWay) → n < length ws → w ≡ get_or ws n w
+    → now ≡ record was { map = written (take n ws) was.map } → new ≡ record now { map = wrote w now.map }
+    → new ≡ record was { map = written (take (n + 1) ws) was.map }
+one_done ws n w was now new within is before done =
+    done ∙ ap (λ (a : UnderWay). record a { map = wrote w a.map }) before
+    ∙ ap (λ (m : Entries). record was { map = m }) (sym (taken_more ws n w was.map within is))

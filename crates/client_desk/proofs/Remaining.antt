@@ -1,6 +1,7 @@
 -- A call of the client that sits at a place, but for one that sits down, leaves or begins a reading, leaves the same
 -- client there, which knows no less; and it asks for no run.
-use Rattle.std.proofs.Common.{◌≡◌, ℕ, [], ap, inl, inr, ◌∙◌, refl, subst, sym, true, Option, Some, None, Result, Ok, Err}
+use Rattle.std.proofs.Common.{◌≡◌, ℕ, [], ap, inl, inr, ◌∙◌, refl, subst, sym, true, Option, Some, None, Result, Ok}
+use Rattle.std.proofs.Common.{Err}
 use Rattle.std.proofs.lemmas.List.{append-nil}
 use Rattle.std.specs.Prelude.{⊤, drop}
 use Rattle.std.specs.FinMap as finite

@@ -128,7 +128,8 @@ fn a_poll_tells_what_changed(rt: HostRuntime) -> Result<(), Refusal> {
     drop(place.close());
     let right = "0 \n0 \n0 []\n0 \n\
         0 [{\"key\":\"a\",\"newValue\":1,\"op\":\"add\"},{\"key\":\"b\",\"newValue\":2,\"op\":\"add\"}]\n0 \n\
-        0 [{\"key\":\"a\",\"oldValue\":1,\"op\":\"del\"},{\"key\":\"b\",\"newValue\":3,\"oldValue\":2,\"op\":\"change\"},\
+        0 [{\"key\":\"a\",\"oldValue\":1,\"op\":\"del\"},\
+        {\"key\":\"b\",\"newValue\":3,\"oldValue\":2,\"op\":\"change\"},\
         {\"key\":\"c\",\"newValue\":4,\"op\":\"add\"}]\n1 \n1 \n-105 \n0 \n-112 \n";
     assert!(rt; said?.as_slice() == right.as_bytes());
     Ok(())

@@ -9,5 +9,5 @@ returns-in-Some g c =
     let here = rw c.in-Client.is at c.self.view_is in let e = c.poll_watch.ensures in
     let there = get_or_default c.self.inside.watches.items c.args.number None c.index_mut.result.now
     (omega (arith, c.len.ensures, c.if-number-len.false)) ∙ sym c.index_mut.ensures.value ∙ c.in-Some.is in
-    polled (telling_of c.args.tells) g.M.Means.means _ c.args.self.now c.in-Client.client c.poll_watch.new.client c.args.number
-    c.in-Some.watch c.poll_watch.new.watch _ here refl there e.polled e.looked
+    polled (telling_of c.args.tells) g.M.Means.means _ c.args.self.now c.in-Client.client c.poll_watch.new.client
+    c.args.number c.in-Some.watch c.poll_watch.new.watch _ here refl there e.polled e.looked
