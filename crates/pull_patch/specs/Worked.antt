@@ -1,5 +1,6 @@
 -- The grammar at bodies that are written out.
-use Rattle.std.specs.Prelude.{ℕ, List, codes, pos, [], ◌∷◌, Result, Ok, Err}
+use Rattle.std.specs.Prelude.{ℕ, ◌≡◌, List, codes, pos, [], ◌∷◌, Some, Result, Ok, Err}
+use Rattle.std.specs.FinMap as finite
 use Rattle.group_history.specs.declared.refusals.Refusal.{Refusal}
 use Rattle.group_history.specs.declared.refusals.Refusal.TheVariants.{BadShape, NotWhole}
 use Rattle.group_history.specs.declared.cookies.Order.TheVariants as order
@@ -10,7 +11,9 @@ use Rattle.group_history.specs.declared.responses.Confirmed.{Confirmed}
 use Rattle.group_history.specs.declared.responses.Patch.{Patch}
 use Rattle.group_history.specs.declared.responses.Patch.TheVariants.{Put, Del, Clear}
 use Rattle.group_history.specs.Map.{Bytes}
+use Rattle.pull_patch.specs.declared.writes.Write.TheVariants as write
 use Rattle.pull_patch.specs.Grammar.{ReadsAs}
+use Rattle.pull_patch.specs.Writes.{writes_in, written}
 
 -- a response whose cookie is the number n
 abbrev pub pulled : Bytes → ℕ → List Confirmed → List Patch → Result Response Refusal
@@ -58,3 +61,19 @@ pub record WorkedBodies : Type 0 where
       (codes
       "{\"cookie\":2,\"lastMutationIDChanges\":{},\"patch\":[{\"op\":\"del\",\"key\":\"n\"},{\"op\":\"clear\"}]}")
       (pulled (codes "2") 2 [] (Del (codes "n") ∷ Clear ∷ []))
+
+pub record WorkedWrites : Type 0 where
+  -- writes in order
+  pub put_and_del :
+      writes_in (codes "[{\"op\":\"put\",\"key\":\"n\",\"value\":[ 5 ]},{\"key\":\"n\",\"op\":\"del\"}]")
+      ≡ Ok (write.Put (codes "n") (codes "[5]") ∷ write.Del (codes "n") ∷ [])
+  pub nothing : writes_in (codes "[]") ≡ Ok []
+  -- `clear` is none; the shape of all goes before whole numbers
+  pub clear_is_none :
+      writes_in (codes "[{\"op\":\"put\",\"key\":\"n\",\"value\":1.5},{\"op\":\"clear\"}]") ≡ Err BadShape
+  pub no_list : writes_in (codes "{\"op\":\"del\",\"key\":\"n\"}") ≡ Err BadShape
+  pub write_not_whole : writes_in (codes "[{\"op\":\"put\",\"key\":\"n\",\"value\":1.5}]") ≡ Err NotWhole
+  -- of two writes at one key the last counts
+  pub last_counts :
+      finite.get (written (write.Put (codes "n") (codes "1") ∷ write.Put (codes "n") (codes "2") ∷ []) finite.empty)
+      (codes "n") ≡ Some (codes "2")

@@ -1,6 +1,6 @@
 //! What is proved of the definition of reading itself.
 ghost use Rattle.pull_patch.specs.Laws.{UnknownFieldsDontCount, OnlyNumbersAreNotWhole};
-ghost use Rattle.pull_patch.specs.Worked.{WorkedBodies};
+ghost use Rattle.pull_patch.specs.Worked.{WorkedBodies, WorkedWrites};
 
 /// A field that no rule speaks of changes nothing, whatever it holds, in a response and in an operation.
 pub fn unknown_fields_law()
@@ -15,4 +15,9 @@ pub fn whole_numbers_law()
 /// The definition of reading at bodies that are written out.
 pub fn worked_bodies()
     ensures { WorkedBodies }
+{}
+
+/// The same of lists of writes, and what these make of a map.
+pub fn worked_writes()
+    ensures { WorkedWrites }
 {}

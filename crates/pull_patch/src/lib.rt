@@ -26,6 +26,6 @@ mod response;
 mod writes;
 
 pub use group_history::{apply_patch, cookie_cmp};
-pub use laws::{unknown_fields_law, whole_numbers_law, worked_bodies};
+pub use laws::{unknown_fields_law, whole_numbers_law, worked_bodies, worked_writes};
 pub use response::read_response;
 pub use writes::{Write, read_writes};
