@@ -8,7 +8,7 @@ ghost use Rattle.reader_claims.specs.Lists.{In};
 ghost use Rattle.reader_claims.specs.Machine.{Moves};
 ghost use Rattle.reader_claims.specs.Passes as held;
 ghost use Rattle.reader_claims.specs.Deeds as deed;
-ghost use Rattle.reader_claims.specs.Passes.{Takes, Looks, Raises, FindsNone, IsRetired, IsButRetired};
+ghost use Rattle.reader_claims.specs.Passes.{Takes, Looks, Raises, FindsNone, KnowsNone, IsRetired, IsButRetired};
 ghost use Rattle.reader_claims.specs.Seats.{AreSeats, IsNew, first_reserved, kind_end};
 ghost use Rattle.reader_claims.specs.Views.{with_pin, with_settled, with_withdrawn};
 ghost use Rattle.reader_claims.specs.declared.words.Pin.TheVariants.{Absent};
@@ -77,7 +77,7 @@ impl ArenaSeat {
         ensures none { IfNone result
             (FindsNone self.old.view self.new.view (kind_end self.old.table.sizes kind)) }
         ensures reserve { IfSome result (λ slot. first_reserved self.old.table.sizes ≤ slot
-            → FindsNone self.old.view self.new.view (first_reserved self.old.table.sizes)) }
+            → ∥ KnowsNone self.old.view self.new.view (first_reserved self.old.table.sizes) ∥₁) }
     {
         match claims.take_slot(&mut self.seat, kind) {
             Some(slot) => Some(slot.number()),

@@ -23,7 +23,7 @@ ghost use Rattle.reader_claims.specs.declared.view.View.{View};
 ghost use Rattle.reader_claims.specs.Lists.{In};
 ghost use Rattle.reader_claims.specs.Machine.{Moves};
 ghost use Rattle.reader_claims.specs.Deeds as deed;
-ghost use Rattle.reader_claims.specs.Passes.{Takes, Looks, Raises, FindsNone, IsRetired, IsButRetired};
+ghost use Rattle.reader_claims.specs.Passes.{Takes, Looks, Raises, FindsNone, KnowsNone, IsRetired, IsButRetired};
 ghost use Rattle.reader_claims.specs.Seats.{ClaimsId, first_reserved, kind_end};
 ghost use Rattle.reader_claims.specs.Views.{with_pin, with_settled, with_withdrawn};
 ghost use Rattle.reader_claims.specs.declared.words.Pin.TheVariants.{Absent};
@@ -169,8 +169,8 @@ pub trait Store<M: Means>: Slots<M> {
             ⊎ ((Self.reused → ⊥) × ((e ≡ refusal.NoMemory) ⊎ ((e ≡ refusal.Full) × (max_slots ≤ stamp))))) };
 
     /// Takes a slot to place a node in. A reserved one is taken only where no ordinary one was free or
-    /// could be given, but for those that other seats were quicker to take. `None` comes after a whole
-    /// pass.
+    /// could be given, but for those that other seats were quicker to take: by a pass of this call, or
+    /// by one since which the seat did nothing but take slots. `None` comes after a whole pass.
     fn take_slot(&self, seat: &mut Self::Seat, kind: Kind) -> Option<u32>
         requires seat { Self.home seat.old ≡ Self.serves self.now }
         ensures seat { Self.home seat.new ≡ Self.serves self.now }
@@ -186,5 +186,5 @@ pub trait Store<M: Means>: Slots<M> {
         ensures none { IfNone result (Self.reused
             × FindsNone (Self.view seat.old) (Self.view seat.new) (kind_end (Self.serves self.now).sizes kind)) }
         ensures reserve { Self.reused → IfSome result (λ slot. first_reserved (Self.serves self.now).sizes ≤ slot
-            → FindsNone (Self.view seat.old) (Self.view seat.new) (first_reserved (Self.serves self.now).sizes)) };
+            → ∥ KnowsNone (Self.view seat.old) (Self.view seat.new) (first_reserved (Self.serves self.now).sizes) ∥₁) };
 }

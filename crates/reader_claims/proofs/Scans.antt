@@ -1,6 +1,6 @@
 -- What a pass over the slots knows.
 use Rattle.std.proofs.Common.{◌≡◌, ℕ, zero, suc, ◌+◌, ◌≤◌, ◌≢◌, List, [], ◌∷◌, ◌++◌, refl, sym, ap, ap₂, ◌∙◌, subst}
-use Rattle.std.proofs.Common.{arith, append_assoc, map, inr}
+use Rattle.std.proofs.Common.{arith, append_assoc, map, inl, inr}
 use Rattle.std.proofs.lemmas.List.{map-append}
 use Rattle.reader_claims.specs.Deeds as deed
 use Rattle.reader_claims.specs.Deeds.{Deed}
@@ -13,6 +13,7 @@ use Rattle.reader_claims.specs.Views.{ArePinsRead, IsOpen, IsClosed}
 use Rattle.reader_claims.specs.Passes as passes
 use Rattle.reader_claims.specs.Lists.{In}
 use Rattle.reader_claims.specs.Passes.{passed, found, retired_at, Looks, OnlyTakes, Takes, WhyShut, AreShut, FindsNone}
+use Rattle.reader_claims.specs.Passes.{FoundNone, KnowsNone}
 use Rattle.reader_claims.specs.Seats.{KeepsPin}
 use Rattle.reader_claims.proofs.Raising.{keeps_promoted}
 use Rattle.reader_claims.specs.Inside.Scans.{Later, HasFound}
@@ -236,6 +237,35 @@ pub passed_ordinary : (v u a b t : View) (begin ordinary : ℕ) → u ≡ passed
 passed_ordinary v u a b t begin ordinary is read l m n first second =
     finds_none v u t ordinary is read (later_later u b t (later_later u a b l m) n)
     (all_later 0 ordinary b t n (all_joined 0 begin ordinary b second (all_later begin ordinary a b m first)))
+
+-- what a pass found stands while slots are taken and given
+pub still_none : (v u : View) (end : ℕ) → Later v u → FoundNone v end → FoundNone u end
+still_none v u end l h = record {
+  epoch = ap (λ (y : View). y.loaded) l.0 ∙ h.epoch ∙ sym (ap (λ (y : View). y.reached) l.0);
+  pins = read_later v u l h.pins;
+  slots = all_later 0 end v u l h.slots;
+  beyond = h.beyond;
+  far = h.far;
+  own = own_later v u h.beyond l h.own;
+}
+
+-- it stood before the steps on slots
+pub known_before : (v u : View) (end : ℕ) → Later v u → FoundNone v end → KnowsNone v u end
+known_before v u end l h = (still_none v u end l h, inr (ap (λ (y : View). y.epoch_loads) l.0, h))
+
+-- a pass, behind some steps on slots, which took a slot that isn't below the end
+pub known_now : (v u t : View) (end i : ℕ) → Later v u → FindsNone u t end → end ≤ i → Takes u t i → KnowsNone v t end
+known_now v u t end i l h far takes = (
+  record {
+    epoch = h.epoch.1;
+    pins = h.pins;
+    slots = h.slots;
+    beyond = i;
+    far = far;
+    own = subst (λ (xs : List ℕ). In xs i) (sym takes.1) (inl refl);
+  },
+  inl (h.epoch.0 ∙ ap (λ (n : ℕ). n + 1) (ap (λ (y : View). y.epoch_loads) l.0)),
+)
 
 -- what the seat took after it had read the epoch and the pins
 pub takes_passed : (v u t : View) → u ≡ passed v u → Later u t → (slots : List ℕ) × OnlyTakes v t slots

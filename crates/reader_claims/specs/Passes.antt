@@ -159,3 +159,19 @@ pub record FindsNone (v u : View) (end : ℕ) : Type 0 where
   pub epoch : (u.epoch_loads ≡ v.epoch_loads + 1) × (u.loaded ≡ u.reached)
   pub pins : ArePinsRead u
   pub slots : AreShut u.taken 0 end u
+
+-- Since the seat last read the epoch it read each pin, and found each slot below end shut. Those that it had itself it
+-- has still, and it has one that is not below end: that one it took where it had found no other.
+pub record FoundNone (v : View) (end : ℕ) : Type 0 where
+  pub epoch : v.loaded ≡ v.reached
+  pub pins : ArePinsRead v
+  pub slots : AreShut v.taken 0 end v
+  pub beyond : ℕ
+  pub far : end ≤ beyond
+  pub own : In v.taken beyond
+
+-- No slot below end could be had: from v to u the epoch was read, once, and then it was found so; or it was found so
+-- before v already, and the epoch wasn't read anew.
+abbrev pub KnowsNone : View → View → ℕ → Type 0
+KnowsNone v u end = FoundNone u end
+    × ((u.epoch_loads ≡ v.epoch_loads + 1) ⊎ ((u.epoch_loads ≡ v.epoch_loads) × FoundNone v end))

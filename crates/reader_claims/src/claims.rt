@@ -46,7 +46,7 @@ ghost use Rattle.reader_claims.specs.Machine.{Move, Moves, left_by};
 ghost use Rattle.reader_claims.specs.Seats.{AreSeats, first_reserved, kind_end};
 ghost use Rattle.reader_claims.specs.Counts.{Counts, Found, HasOldest, OnlyLooks, all_slots};
 ghost use Rattle.reader_claims.specs.Passes.{IsPinned, IsUnpinned, IsRetired, IsButRetired, IsGiven, IsNotGiven};
-ghost use Rattle.reader_claims.specs.Passes.{Takes, Looks, FindsNone};
+ghost use Rattle.reader_claims.specs.Passes.{Takes, Looks, FindsNone, FoundNone, KnowsNone};
 
 use crate::counts::SlotCounts;
 use crate::plays::Deal;
@@ -72,6 +72,9 @@ pub struct ClaimSeat {
     // since.
     last: u32,
     retired: Option<u32>,
+    // Whether a pass found no ordinary slot, since which the seat did nothing but take slots.
+    passed: bool,
+    ghost none: { passed ≡ true → ∥ FoundNone reader.seat.me.0 (first_reserved reader.seat.me.0.sizes) ∥₁ },
 }
 
 impl Model for ClaimSeat {
@@ -105,11 +108,13 @@ impl ClaimSeat {
         self.retired.unwrap_or(self.last)
     }
 
-    fn found(&mut self, slot: u32)
+    fn found(&mut self, slot: u32, passed: bool)
+        requires { passed ≡ true → ∥ FoundNone self.old.view (first_reserved self.old.table.sizes) ∥₁ }
         ensures { self.new ≡ self.old }
     {
         self.last = slot;
         self.retired = None;
+        self.passed = passed;
     }
 
     fn dropped(&mut self, slot: u32)
@@ -144,6 +149,7 @@ impl Claims {
                 },
                 last: dealt.saturating_mul(apart),
                 retired: None,
+                passed: false,
             })?;
         }
         Ok((
@@ -162,6 +168,7 @@ impl Claims {
         ensures view { seat.new.view ≡ with_epoch seat.old.view result }
         ensures bound { (seat.old.view.reached ≤ result) × (result ≤ 2 ^ 60) }
     {
+        seat.passed = false;
         self.words.load_epoch(&mut seat.reader)
     }
 
@@ -175,6 +182,7 @@ impl Claims {
             (λ e. IsPinned seat.old.view seat.new.view e)
             (λ _. IsUnpinned seat.old.view seat.new.view) }
     {
+        seat.passed = false;
         let (first, second) = self.words.look_twice(&mut seat.reader);
         if first == second {
             return Ok(first);
@@ -190,6 +198,7 @@ impl Claims {
         ensures step { (x : ℕ) × Move seat.old.view (pin_at seat.old.view.number) x 0 seat.new.view }
         ensures view { seat.new.view ≡ with_pin seat.old.view Absent }
     {
+        seat.passed = false;
         self.words.clear_pin(&mut seat.reader);
     }
 
@@ -203,13 +212,16 @@ impl Claims {
         ensures reached { (n < seat.new.view.reached) × (seat.old.view.reached ≤ seat.new.view.reached)
             × (seat.new.view.reached ≤ 2 ^ 60) }
     {
+        seat.passed = false;
         self.words.raise_epoch(&mut seat.reader, n);
     }
 
     /// Takes a slot that is free, or that is retired and may be given. A reserved one is taken only
     /// where no ordinary one was free or could be given, but for those that other seats were
-    /// quicker to take. `None` comes after a whole pass. On the way the seat stores no pin, raises
-    /// nothing, and settles, withdraws and retires no slot: it shuts none by itself.
+    /// quicker to take: by a pass of this call; or by one before it, behind which the seat loaded
+    /// no epoch and did nothing but take slots, a reserved one among them. `None` comes after a
+    /// whole pass. On the way the seat stores no pin, raises nothing, and settles, withdraws and
+    /// retires no slot: it shuts none by itself.
     #[inline(always)]
     pub fn take_slot(&self, seat: &mut ClaimSeat, kind: Kind) -> Option<Slot>
         requires { seat.old.table ≡ self.now }
@@ -225,11 +237,12 @@ impl Claims {
         ensures none { IfNone result
             (FindsNone seat.old.view seat.new.view (kind_end self.now.sizes kind)) }
         ensures reserve { IfSome result (λ slot. first_reserved self.now.sizes ≤ slot
-            → FindsNone seat.old.view seat.new.view (first_reserved self.now.sizes)) }
+            → ∥ KnowsNone seat.old.view seat.new.view (first_reserved self.now.sizes) ∥₁) }
     {
-        let start = seat.start();
-        let number = self.words.find(&mut seat.reader, start, kind)?;
-        seat.found(number);
+        let (start, passed) = (seat.start(), seat.passed);
+        seat.passed = false;
+        let number = self.words.find(&mut seat.reader, start, passed, kind)?;
+        seat.found(number, number >= self.words.ordinary());
         Some(Slot::new(number))
     }
 
@@ -242,6 +255,7 @@ impl Claims {
             (slot_word (Taken seat.old.view.number)) (slot_word Live) seat.new.view }
         ensures view { seat.new.view ≡ with_settled seat.old.view slot }
     {
+        seat.passed = false;
         self.words.settle(&mut seat.reader, slot.number());
     }
 
@@ -254,6 +268,7 @@ impl Claims {
             (slot_word (Taken seat.old.view.number)) (slot_word Free) seat.new.view }
         ensures view { seat.new.view ≡ with_withdrawn seat.old.view slot }
     {
+        seat.passed = false;
         self.words.withdraw(&mut seat.reader, slot.number());
     }
 
@@ -268,6 +283,7 @@ impl Claims {
         ensures retired { IsRetired seat.old.view seat.new.view slot r }
         ensures kept { IsButRetired seat.old.view seat.new.view }
     {
+        seat.passed = false;
         if self.words.retire(&mut seat.reader, slot.number(), r) == LIVE {
             seat.dropped(slot.number());
         }
@@ -284,6 +300,7 @@ impl Claims {
         ensures given { result ≡ true → IsGiven seat.old.view seat.new.view slot }
         ensures not_given { result ≡ false → IsNotGiven seat.old.view seat.new.view slot }
     {
+        seat.passed = false;
         self.words.try_give(&mut seat.reader, slot.number())
     }
 
@@ -302,6 +319,7 @@ impl Claims {
         ensures pins { result.pinned_seats ≤ self.now.sizes.readers }
         ensures oldest { HasOldest result }
     {
+        seat.passed = false;
         self.words.count(&mut seat.reader)
     }
 }

@@ -8,6 +8,7 @@ ghost use Rattle.reader_claims.specs.Views.{ArePinsRead, IsOpen, IsClosed, with_
 ghost use Rattle.reader_claims.specs.Machine.{Moves};
 ghost use Rattle.reader_claims.specs.Seats.{first_reserved, kind_end};
 ghost use Rattle.reader_claims.specs.Passes.{passed, Takes, Looks, IsGiven, IsNotGiven, WhyShut, AreShut, FindsNone};
+ghost use Rattle.reader_claims.specs.Passes.{FoundNone, KnowsNone};
 ghost use Rattle.reader_claims.specs.Inside.Scans.{Later, HasFound};
 
 use crate::slot::Kind;
@@ -45,7 +46,7 @@ impl Words {
     ghost use Rattle.reader_claims.specs.Inside.Looked.{IfTook};
 
     // The ordinary slots are those below.
-    fn ordinary(&self) -> u32
+    pub(crate) fn ordinary(&self) -> u32
         ensures { (result ≡ first_reserved self.now.sizes) × (result ≤ self.now.sizes.slots) }
     {
         self.sizes.slots - self.sizes.slots / 4
@@ -260,11 +261,42 @@ impl Words {
         self.scan(reader, ordinary, self.end_of(kind), bound)
     }
 
+    // Takes a reserved slot from `start` on, where a pass has found no ordinary one, or else what a pass finds. So the
+    // reserved slots of one draft cost one pass together, and not one each.
+    fn find_reserved(&self, reader: &mut Reader, start: u32, passed: bool) -> Option<u32>
+        requires table { reader_id reader.old ≡ words_id self.now }
+        requires passed { passed ≡ true → ∥ FoundNone (view reader.old) (first_reserved self.now.sizes) ∥₁ }
+        ensures table { reader_id reader.new ≡ reader_id reader.old }
+        ensures moves { Moves (view reader.old) (view reader.new) }
+        ensures looks { Looks (view reader.old) (view reader.new) }
+        ensures taken { MatchOption result
+            ((view reader.new).taken ≡ (view reader.old).taken)
+            (λ i. (i < self.now.sizes.slots) × Takes (view reader.old) (view reader.new) i) }
+        ensures none { IfNone result (FindsNone (view reader.old) (view reader.new) self.now.sizes.slots) }
+        ensures reserve { IfSome result (λ i. first_reserved self.now.sizes ≤ i
+            → ∥ KnowsNone (view reader.old) (view reader.new) (first_reserved self.now.sizes) ∥₁) }
+    {
+        if !passed {
+            return self.pass(reader, 0, Kind::PullEnd);
+        }
+        match self.quick_over(reader, start, self.sizes.slots) {
+            Some(slot) => Some(slot),
+            None => self.pass(reader, 0, Kind::PullEnd),
+        }
+    }
+
     // Takes a slot: a free one near `start`, or what a pass finds. Where the last slot was a reserved
-    // one no ordinary one was free, and a reserved one is had by a pass alone.
+    // one no ordinary one was free, and a reserved one is had behind a pass alone.
     #[inline(always)]
-    pub(crate) fn find(&self, reader: &mut Reader, start: u32, kind: Kind) -> Option<u32>
-        requires { reader_id reader.old ≡ words_id self.now }
+    pub(crate) fn find(
+        &self,
+        reader: &mut Reader,
+        start: u32,
+        passed: bool,
+        kind: Kind,
+    ) -> Option<u32>
+        requires table { reader_id reader.old ≡ words_id self.now }
+        requires passed { passed ≡ true → ∥ FoundNone (view reader.old) (first_reserved self.now.sizes) ∥₁ }
         ensures table { reader_id reader.new ≡ reader_id reader.old }
         ensures moves { Moves (view reader.old) (view reader.new) }
         ensures looks { Looks (view reader.old) (view reader.new) }
@@ -274,11 +306,11 @@ impl Words {
         ensures none { IfNone result
             (FindsNone (view reader.old) (view reader.new) (kind_end self.now.sizes kind)) }
         ensures reserve { IfSome result (λ i. first_reserved self.now.sizes ≤ i
-            → FindsNone (view reader.old) (view reader.new) (first_reserved self.now.sizes)) }
+            → ∥ KnowsNone (view reader.old) (view reader.new) (first_reserved self.now.sizes) ∥₁) }
     {
         let ordinary = self.ordinary();
         if start >= ordinary && matches!(kind, Kind::PullEnd) {
-            return self.pass(reader, 0, kind);
+            return self.find_reserved(reader, start, passed);
         }
         let start = if start < ordinary { start } else { 0 };
         match self.quick_round(reader, start, ordinary) {

@@ -1,6 +1,7 @@
 //! The quick search for a slot, by plain loads.
-ghost use Rattle.std.specs.Prelude.{◌≡◌, ◌+◌, ◌-◌, ◌^◌, ◌<◌, ◌≤◌};
+ghost use Rattle.std.specs.Prelude.{◌≡◌, ◌+◌, ◌-◌, ◌^◌, ◌<◌, ◌≤◌, MatchOption};
 ghost use Rattle.reader_claims.specs.Machine.{Moves};
+ghost use Rattle.reader_claims.specs.Passes.{Takes};
 ghost use Rattle.reader_claims.specs.Inside.Scans.{Later};
 
 use crate::passes::Look;
@@ -77,7 +78,25 @@ impl Words {
         Look::Nothing
     }
 
-    // The same at places that are spread over the slots.
+    // The same, but what is retired and not known as open is passed over.
+    pub(crate) fn quick_over(&self, reader: &mut Reader, from: u32, end: u32) -> Option<u32>
+        requires { (reader_id reader.old ≡ words_id self.now) × (end ≤ self.now.sizes.slots) }
+        ensures table { reader_id reader.new ≡ reader_id reader.old }
+        ensures moves { Moves (view reader.old) (view reader.new) }
+        ensures later { Later (view reader.old) (view reader.new) }
+        ensures taken { MatchOption result
+            ((view reader.new).taken ≡ (view reader.old).taken)
+            (λ i. (i < end) × Takes (view reader.old) (view reader.new) i) }
+    {
+        for slot in from..end {
+            if let Look::Took(found) = self.quick_at(reader, slot) {
+                return Some(found);
+            }
+        }
+        None
+    }
+
+    // As `quick`, at places that are spread over the slots.
     fn probe(&self, reader: &mut Reader, end: u32) -> Look
         requires { (reader_id reader.old ≡ words_id self.now) × (end ≤ self.now.sizes.slots) }
         ensures table { reader_id reader.new ≡ reader_id reader.old }
@@ -99,7 +118,7 @@ impl Words {
         Look::Nothing
     }
 
-    // The same at a few slots from `start` on, and then at spread places.
+    // As `quick`, at a few slots from `start` on, and then at spread places.
     #[inline(always)]
     fn quick_few(&self, reader: &mut Reader, start: u32, end: u32) -> Look
         requires { (reader_id reader.old ≡ words_id self.now) × (start ≤ end) × (end ≤ self.now.sizes.slots) }
