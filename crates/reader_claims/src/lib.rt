@@ -24,10 +24,10 @@
 //! Of N slots the last N / 4 are reserved for ends of pulls that leave nothing pending (`Kind::PullEnd`), which take
 //! one only where no ordinary slot can be had; so a full group can be emptied. What a pass read of the pins counts
 //! until its seat loads or raises the epoch again: a seat keeps the greatest number at which that reading leaves a slot
-//! open. So the takes of one draft read each pin once, however many nodes it has. Nor do they look at all ordinary slots
-//! more than once: that a pass found none of them stands while its seat does nothing but take slots, and the next reserved
-//! one is had behind the last. In a table of 16 seats or more a pass
-//! that finds a slot gives up to 64 slots behind it as well, so the next takes need no reading of the pins.
+//! open. So the takes of one draft read each pin once, however many nodes it has. Nor do they look at all ordinary
+//! slots more than once: that a pass found none of them stands while its seat does nothing but take slots, and the next
+//! reserved one is had behind the last. In a table of 16 seats or more a pass that finds a slot gives up to 64 slots
+//! behind it as well, so the next takes need no reading of the pins.
 //!
 //! A count looks at each word once, by loads that disturb nobody. Each number was so at some time in the call; no two
 //! need have been so at once. A retired slot counts as retired until somebody who looks for a slot gives it.
