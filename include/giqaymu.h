@@ -84,7 +84,8 @@ typedef struct giq_bytes {
 /* What a call tells beside the number that it returns. */
 typedef struct giq_answer {
     giq_bytes bytes; /* of the library, good until the next call of the place */
-    uint64_t number; /* an id, the number of a ticket, of a watch or of a moment, or a reason; else 0 */
+    uint64_t number; /* an id, the number of a ticket, of a watch or of a moment, or a reason; of a query's answer its
+                        moment; else 0 */
     uint32_t code;   /* of GIQ_REFUSED the mutator's; of GIQ_VERSION_NOT_SUPPORTED an enum giq_version_kind; else 0 */
 } giq_answer;
 
@@ -446,8 +447,9 @@ static inline int32_t giq_refresh(giq_place *place, giq_answer *answer) {
     return giq_ask(place, GIQ_CALL_REFRESH, 0, 0, giq_nothing(), giq_nothing(), answer);
 }
 
-/* ---- queries: each but giq_slots is answered as of one moment of the call, or of the reading that is open. Refused:
- * GIQ_BUSY, GIQ_GONE, and giq_slots and giq_moment with neither; those that are given bytes: GIQ_NOT_UTF8 */
+/* ---- queries: each but giq_slots is answered as of one moment of the call, or of the reading that is open, and tells
+ * it: answer->number, as giq_moment counts them. Refused: GIQ_BUSY, GIQ_GONE, and giq_slots and giq_moment with neither;
+ * those that are given bytes: GIQ_NOT_UTF8 */
 
 /* The value at the key, a compact JSON text; GIQ_NONE where there is none. */
 static inline int32_t giq_get(giq_place *place, giq_bytes key, giq_answer *answer) {

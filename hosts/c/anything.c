@@ -171,12 +171,19 @@ static int is_refused_in_readings(uint32_t what) {
     return what == GIQ_CALL_MUTATE || what == GIQ_CALL_POLL || what == GIQ_CALL_POLL_CHANGES;
 }
 
+/* These are queries, whose answers tell their moments. */
+static int is_query(uint32_t what) {
+    return (what >= GIQ_CALL_GET && what <= GIQ_CALL_CLOSED) || what == GIQ_CALL_PUSH || what == GIQ_CALL_PULLED_GET ||
+           what == GIQ_CALL_PULLED_SCAN;
+}
+
 /* What a call says of readings and moments. */
 static void check_reads(giq_place *place, int at, uint32_t what, int32_t returned, const giq_answer *answer) {
     if (reads[at] && returned >= 0 && is_refused_in_readings(what)) fail("reads", (long)what);
     if (returned == GIQ_NO_MEMORY && takes_none(what)) fail("memory", (long)what);
     if (returned == GIQ_READS && !reads[at]) fail("no reading", (long)what);
     if (returned == GIQ_NOT_READ && reads[at]) fail("a reading", (long)what);
+    if (returned >= 0 && is_query(what)) check_moment(at, answer->number);
     if (returned != GIQ_OK) return;
     if (what == GIQ_CALL_MOMENT) check_moment(at, answer->number);
     if (what == GIQ_CALL_BEGIN_READ) check_reading(place, at);

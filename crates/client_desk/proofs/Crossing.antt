@@ -145,7 +145,10 @@ module _ (M : RattleType) (means : Means.Ghosts M.Denot) (m : IsSend M) (my : Is
             as_row_send (Sitting.the_field M means) sitting_send,
             (
               search (ticket.the_send, crosses, sendable) depth 60 fits 20000,
-              (search (watch.the_send, crosses, sendable) depth 60 fits 20000, tt),
+              (
+                search (watch.the_send, crosses, sendable) depth 60 fits 20000,
+                (search sendable depth 60 fits 20000, tt),
+              ),
             ),
           ),
         ),

@@ -1,5 +1,5 @@
 -- What a query tells, whichever it is: by a client, by a reading that is open, and where neither is there.
-use Rattle.std.proofs.Common.{◌≡◌, Bool, List, Option, Some, None, Result, Ok, Err, refl, true, ◌∙◌}
+use Rattle.std.proofs.Common.{◌≡◌, ℕ, Bool, List, Option, Some, None, Result, Ok, Err, refl, true, ◌∙◌}
 use Rattle.std.specs.Prelude.{⊤, [], IfErr, IfOk}
 use Rattle.std.specs.FinMap as finite
 use Rattle.group_history.specs.declared.mutations.Mutation.{Mutation}
@@ -14,14 +14,14 @@ use Rattle.group_history.specs.Spelling.{version_of}
 use Rattle.group_history.specs.State.{State}
 use Rattle.answered.specs.Answered.{IsLinearized, IsPoint, is_mute, no_change}
 use Rattle.group_steps.specs.Missing.{IsMissedOrDry, map_ok}
-use Rattle.rebase.specs.Clients.{ClientState, Stays}
+use Rattle.rebase.specs.Clients.{ClientState}
 use Rattle.client_desk.specs.declared.calls.Call.{Call}
 use Rattle.client_desk.specs.declared.calls.Call.TheVariants as kind
 use Rattle.client_desk.specs.declared.faults.Fault.{Fault}
 use Rattle.client_desk.specs.declared.outcomes.Outcome.TheVariants.{Faulty}
-use Rattle.client_desk.specs.Answers.{AnswersReading, Asks, ReadsBy, ReadsKept, absent, read_by, tries}
+use Rattle.client_desk.specs.Answers.{AnswersReading, Asks, ReadsBy, ReadsKept, absent, moment_by, read_by, tries}
 use Rattle.client_desk.specs.Inside.Reading.{ToldBy, ToldKept, is_query, query_told}
-use Rattle.client_desk.specs.Places.{PlaceState, with_client}
+use Rattle.client_desk.specs.Places.{PlaceState, with_client, with_moment}
 use Rattle.client_desk.specs.Told.{Told, cookie_told, is_told, pending_told, rows_told, tells, told, value_told}
 use Rattle.client_desk.proofs.Telling.{asked_client, asked_nobody, asked_reader, refused_as}
 
@@ -37,44 +37,61 @@ pub err_mapped : {X Y : Type 0} (f : X → Y) (P : Refusal → Type 0) (r : Resu
 err_mapped f P (Ok x) h = tt
 err_mapped f P (Err e) h = h
 
+-- and so its moment
+pub moment_mapped : {X Y : Type 0} (f : X → Y) (r : Result X Refusal) (reader : ClientState) (n : ℕ)
+    → moment_by r reader n ≡ moment_by (map_ok f r) reader n
+moment_mapped f (Ok x) reader n = refl
+moment_mapped f (Err e) reader n = refl
+
 -- ---- a query that was told so
 
 client_read : {X : Type 0} (tell : X → Told) (right : State → X) (means : Meanings) (client next : ClientState)
-    (t : Told) → ToldBy means client next t (λ s. tell (right s)) → ReadsBy tell right means client t next
-client_read tell right means client next t h = by h.reply h.answer h.point h.at h.refused h.told
+    (n m : ℕ) (t : Told) → ToldBy means client next n m t (λ s. tell (right s))
+    → (read : ReadsBy tell right means client t next) × (m ≡ moment_by read.reply next n)
+client_read tell right means client next n m t h = by h.reply h.answer h.point h.at h.refused h.told h.moment
   where
     by : (reply : Result Told Refusal)
         → IsLinearized means tries client.seat.mark next.seat.mark reply no_change (λ s. Ok (tell (right s)))
         → IfOk reply (λ x. IsPoint means client.seat.mark next.seat.mark None next.seat.mark.log)
         → IfOk reply (λ x. x ≡ tell (right (read_by next))) → IfErr reply (IsMissedOrDry ⊤)
-        → t ≡ tells (λ x. x) reply → ReadsBy tell right means client t next
-    by (Ok x) answer point at refused told = record {
-      reply = Ok (right (read_by next));
-      answer = (next.seat.mark.log, point, refl);
-      at = refl;
-      refused = tt;
-      stays = h.stays;
-      told = told ∙ at;
-    }
-    by (Err e) answer point at refused told = record {
-      reply = Err e;
-      answer = refused_as means tries client.seat.mark next.seat.mark (is_mute e None) e (λ s. tell (right s)) right
-          answer;
-      at = tt;
-      refused = refused;
-      stays = h.stays;
-      told = told;
-    }
+        → t ≡ tells (λ x. x) reply → m ≡ moment_by reply next n
+        → (read : ReadsBy tell right means client t next) × (m ≡ moment_by read.reply next n)
+    by (Ok x) answer point at refused told when = (
+      record {
+        reply = Ok (right (read_by next));
+        answer = (next.seat.mark.log, point, refl);
+        at = refl;
+        refused = tt;
+        stays = h.stays;
+        told = told ∙ at;
+      },
+      when,
+    )
+    by (Err e) answer point at refused told when = (
+      record {
+        reply = Err e;
+        answer = refused_as means tries client.seat.mark next.seat.mark (is_mute e None) e (λ s. tell (right s)) right
+            answer;
+        at = tt;
+        refused = refused;
+        stays = h.stays;
+        told = told;
+      },
+      when,
+    )
 
-reader_read : {X : Type 0} (tell : X → Told) (right : State → X) (reader : ClientState) (t : Told)
-    → ToldKept reader t (λ s. tell (right s)) → ReadsKept tell right reader t
-reader_read tell right reader t h = by h.reply h.answer h.refused h.told
+reader_read : {X : Type 0} (tell : X → Told) (right : State → X) (reader : ClientState) (n m : ℕ) (t : Told)
+    → ToldKept reader n m t (λ s. tell (right s))
+    → (kept : ReadsKept tell right reader t) × (m ≡ moment_by kept.reply reader n)
+reader_read tell right reader n m t h = by h.reply h.answer h.refused h.told h.moment
   where
     by : (reply : Result Told Refusal) → IfOk reply (λ x. x ≡ tell (right (read_by reader)))
-        → IfErr reply (IsMissedOrDry ⊤) → t ≡ tells (λ x. x) reply → ReadsKept tell right reader t
-    by (Ok x) answer refused told =
-        record { reply = Ok (right (read_by reader)); answer = refl; refused = tt; told = told ∙ answer }
-    by (Err e) answer refused told = record { reply = Err e; answer = tt; refused = refused; told = told }
+        → IfErr reply (IsMissedOrDry ⊤) → t ≡ tells (λ x. x) reply → m ≡ moment_by reply reader n
+        → (kept : ReadsKept tell right reader t) × (m ≡ moment_by kept.reply reader n)
+    by (Ok x) answer refused told when =
+        (record { reply = Ok (right (read_by reader)); answer = refl; refused = tt; told = told ∙ answer }, when)
+    by (Err e) answer refused told when =
+        (record { reply = Err e; answer = tt; refused = refused; told = told }, when)
 
 -- ---- each of them
 
@@ -120,29 +137,32 @@ module _ (means : Meanings) (b : PlaceState) (t : Told) (a : PlaceState) (IsTold
   each_query (kind.Ran ran) q h = absurd (cc q)
   each_query kind.GiveUp q h = absurd (cc q)
 
-pub told_client : (means : Meanings) (v b : PlaceState) (client next : ClientState) (t : Told) (call : Call) → v ≡ b
-    → v.client ≡ Some client → v.reading ≡ None → is_query call ≡ true
-    → ToldBy means client next t (λ s. query_told (version_of means s) call)
-    → AnswersReading means call b t (with_client next v)
-told_client means v b client next t call same is none query h =
-    each_query means b t (with_client next v) (ToldBy means client next t) ask call query h
+pub told_client : (means : Meanings) (v b : PlaceState) (client next : ClientState) (m : ℕ) (t : Told) (call : Call)
+    → v ≡ b → v.client ≡ Some client → v.reading ≡ None → is_query call ≡ true
+    → ToldBy means client next v.moment m t (λ s. query_told (version_of means s) call)
+    → AnswersReading means call b t (with_moment m (with_client next v))
+told_client means v b client next m t call same is none query h =
+    each_query means b t (with_moment m (with_client next v)) (ToldBy means client next v.moment m t) ask call query h
   where
-    ask : (X : Type 0) (tell : X → Told) (right : State → X) → ToldBy means client next t (λ s. tell (right s))
-        → Asks tell (λ c s. right s) means b t (with_client next v)
+    ask : (X : Type 0) (tell : X → Told) (right : State → X)
+        → ToldBy means client next v.moment m t (λ s. tell (right s))
+        → Asks tell (λ c s. right s) means b t (with_moment m (with_client next v))
     ask X tell right told =
-        asked_client tell (λ c s. right s) means v b client next t same is none
-        (client_read tell right means client next t told)
+        let read = client_read tell right means client next v.moment m t told in
+        asked_client tell (λ c s. right s) means v b client next m t same is none read.0 read.1
 
-pub told_reader : (means : Meanings) (v b : PlaceState) (reader : ClientState) (t : Told) (call : Call) → v ≡ b
+pub told_reader : (means : Meanings) (v b : PlaceState) (reader : ClientState) (m : ℕ) (t : Told) (call : Call) → v ≡ b
     → v.reading ≡ Some reader → is_query call ≡ true
-    → ToldKept reader t (λ s. query_told (version_of means s) call) → AnswersReading means call b t v
-told_reader means v b reader t call same is query h =
-    each_query means b t v (ToldKept reader t) ask call query h
+    → ToldKept reader v.moment m t (λ s. query_told (version_of means s) call)
+    → AnswersReading means call b t (with_moment m v)
+told_reader means v b reader m t call same is query h =
+    each_query means b t (with_moment m v) (ToldKept reader v.moment m t) ask call query h
   where
-    ask : (X : Type 0) (tell : X → Told) (right : State → X) → ToldKept reader t (λ s. tell (right s))
-        → Asks tell (λ c s. right s) means b t v
+    ask : (X : Type 0) (tell : X → Told) (right : State → X) → ToldKept reader v.moment m t (λ s. tell (right s))
+        → Asks tell (λ c s. right s) means b t (with_moment m v)
     ask X tell right told =
-        asked_reader tell (λ c s. right s) means v b reader t same is (reader_read tell right reader t told)
+        let kept = reader_read tell right reader v.moment m t told in
+        asked_reader tell (λ c s. right s) means v b reader m t same is kept.0 kept.1
 
 pub told_nobody : (means : Meanings) (v b : PlaceState) (f : Fault) (bytes : Bytes) (call : Call) → v ≡ b
     → v.client ≡ None → v.reading ≡ None → f ≡ absent v.reading → bytes ≡ [] → is_query call ≡ true

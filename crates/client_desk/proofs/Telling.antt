@@ -4,7 +4,6 @@ use Rattle.std.proofs.Common.{sym, ap, ◌∙◌, subst}
 use Rattle.std.specs.Prelude.{⊤, Bool, true, false, if◌then◌else◌, is_ok, IfErr, IfOk, OnOk}
 use Rattle.group_history.specs.Meaning.{Meanings}
 use Rattle.group_history.specs.declared.refusals.Refusal.{Refusal}
-use Rattle.group_history.specs.declared.refusals.Refusal.TheVariants.{NoMemory}
 use Rattle.group_history.specs.Map.{Bytes}
 use Rattle.group_history.specs.State.{State, last_id}
 use Rattle.answered.specs.Answered.{IsLinearized, IsPoint, IsRefused, no_change}
@@ -12,15 +11,15 @@ use Rattle.commit_graph.specs.Seats.{HasLooked}
 use Rattle.group_steps.specs.Missing.{IsStoreRefusal}
 use Rattle.head_word.specs.Laws.{moment}
 use Rattle.head_word.specs.Marks.{Known}
-use Rattle.rebase.specs.Clients.{ClientState, IsSameClient, Looks, Stays}
+use Rattle.rebase.specs.Clients.{ClientState, IsSameClient, Looks}
 use Rattle.client_desk.specs.declared.faults.Fault.{Fault}
 use Rattle.client_desk.specs.declared.outcomes.Outcome.{Outcome}
 use Rattle.client_desk.specs.declared.outcomes.Outcome.TheVariants.{Done, Faulty, Number}
 use Rattle.client_desk.specs.declared.sitting.Sitting.{Sitting}
 use Rattle.client_desk.specs.declared.sitting.Sitting.TheVariants as sits
-use Rattle.client_desk.specs.Answers.{Asks, AsksAs, At, ByClient, Lacks, Reads, ReadsBy, ReadsKept, Refreshes, Rule}
-use Rattle.client_desk.specs.Answers.{TellsMoment, TellsMomentAs, absent, read_by, tries}
-use Rattle.client_desk.specs.Places.{PlaceState, with_client}
+use Rattle.client_desk.specs.Answers.{Asks, AsksAs, At, ByClient, Reads, ReadsBy, ReadsKept, Refreshes, Rule}
+use Rattle.client_desk.specs.Answers.{TellsMoment, TellsMomentAs, absent, moment_by, tries}
+use Rattle.client_desk.specs.Places.{PlaceState, with_client, with_moment}
 use Rattle.client_desk.specs.Sitting.{client_of, reading_of}
 use Rattle.client_desk.specs.Told.{Told, dry, id_told, tells, told, told_alone}
 
@@ -56,27 +55,31 @@ asks_none tell right means b t a none is = subst (λ o. AsksAs tell right means 
 
 -- what a client tells that read
 asks_client : {X : Type 0} (tell : X → Told) (right : ClientState → State → X) (means : Meanings) (b : PlaceState)
-    (client next : ClientState) (t : Told) → b.client ≡ Some client → b.reading ≡ None
-    → ReadsBy tell (right client) means client t next → Asks tell right means b t (with_client next b)
-asks_client tell right means b client next t is none read =
-    asks_none tell right means b t (with_client next b) none
-    (at_some b.client (absent b.reading) (λ c. Reads tell (right c) means c) client b t (with_client next b) is
-    (next, read, refl))
+    (client next : ClientState) (m : ℕ) (t : Told) → b.client ≡ Some client → b.reading ≡ None
+    → (read : ReadsBy tell (right client) means client t next) → m ≡ moment_by read.reply next b.moment
+    → Asks tell right means b t (with_moment m (with_client next b))
+asks_client tell right means b client next m t is none read at =
+    let a = with_moment m (with_client next b) in
+    asks_none tell right means b t a none
+    (at_some b.client (absent b.reading) (λ c. Reads tell (right c) means c) client b t a is
+    (next, read, ap (λ n. with_moment n (with_client next b)) at))
 
 pub asked_client : {X : Type 0} (tell : X → Told) (right : ClientState → State → X) (means : Meanings)
-    (v b : PlaceState) (client next : ClientState) (t : Told) → v ≡ b → v.client ≡ Some client → v.reading ≡ None
-    → ReadsBy tell (right client) means client t next → Asks tell right means b t (with_client next v)
-asked_client tell right means v b client next t same is none read =
-    subst (λ s. Asks tell right means s t (with_client next v)) same
-    (asks_client tell right means v client next t is none read)
+    (v b : PlaceState) (client next : ClientState) (m : ℕ) (t : Told) → v ≡ b → v.client ≡ Some client
+    → v.reading ≡ None → (read : ReadsBy tell (right client) means client t next)
+    → m ≡ moment_by read.reply next v.moment → Asks tell right means b t (with_moment m (with_client next v))
+asked_client tell right means v b client next m t same is none read at =
+    subst (λ s. Asks tell right means s t (with_moment m (with_client next v))) same
+    (asks_client tell right means v client next m t is none read at)
 
 -- what an open reading tells
 pub asked_reader : {X : Type 0} (tell : X → Told) (right : ClientState → State → X) (means : Meanings)
-    (v b : PlaceState) (reader : ClientState) (t : Told) → v ≡ b → v.reading ≡ Some reader
-    → ReadsKept tell (right reader) reader t → Asks tell right means b t v
-asked_reader tell right means v b reader t same is kept =
-    subst (λ s. Asks tell right means s t v) same
-    (subst (λ o. AsksAs tell right means o v t v) (sym is) (kept, refl))
+    (v b : PlaceState) (reader : ClientState) (m : ℕ) (t : Told) → v ≡ b → v.reading ≡ Some reader
+    → (kept : ReadsKept tell (right reader) reader t) → m ≡ moment_by kept.reply reader v.moment
+    → Asks tell right means b t (with_moment m v)
+asked_reader tell right means v b reader m t same is kept at =
+    subst (λ s. Asks tell right means s t (with_moment m v)) same
+    (subst (λ o. AsksAs tell right means o v t (with_moment m v)) (sym is) (kept, ap (λ n. with_moment n v) at))
 
 -- where neither is there
 pub asked_nobody : {X : Type 0} (tell : X → Told) (right : ClientState → State → X) (means : Meanings)

@@ -40,7 +40,7 @@ use Rattle.client_desk.specs.declared.faults.Fault.TheVariants as fault
 use Rattle.client_desk.specs.declared.calls.Keep.{Keep}
 use Rattle.client_desk.specs.Kept.{IsKeptAt, IsNumberFor, kept_at, room_for, without}
 use Rattle.client_desk.specs.Places.{PlaceState, client_at, free_place, read_through, sat, unsat, with_client}
-use Rattle.client_desk.specs.Places.{with_reading, with_tickets, with_watches}
+use Rattle.client_desk.specs.Places.{with_moment, with_reading, with_tickets, with_watches}
 use Rattle.client_desk.specs.Told.{Told, bytes_told, changes_told, cookie_told, dry, id_told, is_told, pending_told}
 use Rattle.client_desk.specs.Told.{polled_told, rows_told, slots_told, tells, told, told_alone, value_told}
 
@@ -153,10 +153,16 @@ pub record ReadsBy {X : Type 0} (tell : X → Told) (right : State → X) (means
   pub stays : Stays ⊤ client next
   pub told : t ≡ tells tell reply
 
+-- the moment of a place's last query then: of one that is answered, where it was read; a refused one leaves it
+abbrev pub moment_by : {X : Type 0} → Result X Refusal → ClientState → ℕ → ℕ
+moment_by (Ok x) reader n = moment reader.seat.mark.log
+moment_by (Err e) reader n = n
+
 -- nothing else of the place changes
 abbrev pub Reads : {X : Type 0} → (X → Told) → (State → X) → Meanings → ClientState → Rule
 Reads tell right means client before t after =
-    (next : ClientState) × ReadsBy tell right means client t next × (after ≡ with_client next before)
+    (next : ClientState) × (read : ReadsBy tell right means client t next)
+    × (after ≡ with_moment (moment_by read.reply next before.moment) (with_client next before))
 
 -- the reply of an open reading is right at its moment
 pub record ReadsKept {X : Type 0} (tell : X → Told) (right : State → X) (reader : ClientState) (t : Told) : Type 0 where
@@ -165,9 +171,11 @@ pub record ReadsKept {X : Type 0} (tell : X → Told) (right : State → X) (rea
   pub refused : IfErr reply (IsMissedOrDry ⊤)
   pub told : t ≡ tells tell reply
 
--- A query: by the reading that is open, which changes nothing; or by the client.
+-- A query: by the reading that is open, which changes nothing but the last moment; or by the client.
 abbrev pub AsksAs : {X : Type 0} → (X → Told) → (ClientState → State → X) → Meanings → Option ClientState → Rule
-AsksAs tell right means (Some reader) before t after = ReadsKept tell (right reader) reader t × (after ≡ before)
+AsksAs tell right means (Some reader) before t after =
+    (read : ReadsKept tell (right reader) reader t)
+    × (after ≡ with_moment (moment_by read.reply reader before.moment) before)
 AsksAs tell right means None before t after = ByClient (λ c. Reads tell (right c) means c) before t after
 
 abbrev pub Asks : {X : Type 0} → (X → Told) → (ClientState → State → X) → Meanings → Rule

@@ -1,5 +1,5 @@
 -- How a place stands. This project's own words.
-use Rattle.std.specs.Prelude.{[], List, Option, Some, None}
+use Rattle.std.specs.Prelude.{ℕ, [], List, Option, Some, None}
 use Rattle.std.specs.Option.{option_or}
 use Rattle.commit_graph.specs.Seats.{Seated}
 use Rattle.rebase.specs.Clients.{ClientState, Grouped}
@@ -8,7 +8,8 @@ use Rattle.rebase.specs.Watching.{Watched}
 use Rattle.rebase.specs.declared.tickets.Ticket.{Ticket}
 
 -- A place at a group: the seat while nobody sits there, the client that sits there, the change of that client that asks
--- for a run, or the client that has a reading open; and what the client keeps under numbers: tickets, and watches.
+-- for a run, or the client that has a reading open; what the client keeps under numbers: tickets, and watches; and the
+-- moment of the query that was answered there last, 0 before the first.
 pub record PlaceState : Type 0 where
   pub group : Grouped
   pub seat : Option Seated
@@ -17,6 +18,7 @@ pub record PlaceState : Type 0 where
   pub reading : Option ClientState
   pub tickets : List (Option Ticket)
   pub watches : List (Option Watched)
+  pub moment : ℕ
 
 -- nobody sits there, and nothing is kept
 abbrev pub free_place : Grouped → Seated → PlaceState
@@ -28,6 +30,7 @@ free_place group seat = record {
   reading = None;
   tickets = [];
   watches = [];
+  moment = 0;
 }
 
 -- a client sat down
@@ -41,6 +44,10 @@ unsat seat p = record p { seat = Some seat }
 -- the client made a call, and stands so now
 abbrev pub with_client : ClientState → PlaceState → PlaceState
 with_client c p = record p { client = Some c }
+
+-- a query was answered there, at this moment
+abbrev pub with_moment : ℕ → PlaceState → PlaceState
+with_moment n p = record p { moment = n }
 
 -- its change ended, and it sits there again
 abbrev pub back_at : ClientState → PlaceState → PlaceState

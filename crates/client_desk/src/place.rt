@@ -40,6 +40,8 @@ pub struct Place<M: Hosted> {
     pub(crate) sitting: Sitting<M>,
     pub(crate) tickets: Vec<Option<Ticket>>,
     watches: Vec<Option<Watch<M>>>,
+    // That of the last query that was answered.
+    pub(crate) moment: u64,
 }
 
 impl<M: Hosted> Model for Place<M> {
@@ -74,6 +76,7 @@ impl<M: Hosted> Model for Place<M> {
       reading = reading_of p.sitting;
       tickets = p.tickets.items;
       watches = p.watches.items;
+      moment = p.moment;
     } };
 
     ghost invariant = { λ p. IfSome (seat_of p.sitting) (IsSeatOf (arc_value p.group).group)
@@ -101,7 +104,15 @@ impl<M: Hosted> Place<M> {
             sitting: Sitting::Nobody(seat),
             tickets: Vec::new(alloc),
             watches: Vec::new(alloc),
+            moment: 0,
         }
+    }
+
+    /// The moment of the query that was answered there last, as `Call::Moment` tells them; 0 before the first.
+    pub fn moment_of_query(&self) -> u64
+        ensures { result ≡ self.now.moment }
+    {
+        self.moment
     }
 
     /// Closes the place: who sits there leaves. A change that asks for a run is given up. Answers the seat.
@@ -114,6 +125,7 @@ impl<M: Hosted> Place<M> {
             sitting,
             tickets: _,
             watches: _,
+            moment: _,
         } = self;
         sitting.close()
     }
@@ -169,6 +181,7 @@ impl<M: Hosted + Sync> Place<M> {
         self.put(Sitting::Nobody(client.close()));
         self.tickets.clear();
         self.watches.clear();
+        self.moment = 0;
     }
 
     fn leave(&mut self) -> Outcome

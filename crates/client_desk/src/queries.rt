@@ -23,10 +23,10 @@ impl<M: Hosted + Sync> Place<M> {
     {
         match &mut self.sitting {
             Sitting::Client(client) => {
-                return tell_by_client(self.alloc, client, call, bytes);
+                return tell_by_client(self.alloc, client, call, &mut self.moment, bytes);
             }
             Sitting::Reading(reader) => {
-                return tell_by_reading(self.alloc, reader, call, bytes);
+                return tell_by_reading(self.alloc, reader, call, &mut self.moment, bytes);
             }
             other => {
                 return Outcome::Faulty(other.absent());
@@ -41,10 +41,10 @@ impl<M: Hosted + Sync> Place<M> {
     {
         match &mut self.sitting {
             Sitting::Client(client) => {
-                return tell_push(client, skip, bytes);
+                return tell_push(client, skip, &mut self.moment, bytes);
             }
             Sitting::Reading(reader) => {
-                return tell_push_as_of(reader, skip, bytes);
+                return tell_push_as_of(reader, skip, &mut self.moment, bytes);
             }
             other => {
                 return Outcome::Faulty(other.absent());

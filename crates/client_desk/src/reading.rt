@@ -1,5 +1,5 @@
 //! What a query is answered at a commit, and how it is told: by a reading that is open, or by a client that reads once.
-ghost use Rattle.std.specs.Prelude.{◌≡◌, ⊤, [], drop, map, true, None, Ok, IfErr, IfOk};
+ghost use Rattle.std.specs.Prelude.{◌≡◌, ⊤, [], map, true, None, Ok, IfErr, IfOk};
 ghost use Rattle.std.specs.FinMap as finite;
 ghost use Rattle.group_history.specs.Record.{after};
 ghost use Rattle.group_history.specs.Scans.{rows_of};
@@ -7,14 +7,14 @@ ghost use Rattle.group_history.specs.Spelling.{version_of};
 ghost use Rattle.answered.specs.Answered.{IsLinearized, IsPoint, no_change};
 ghost use Rattle.group_steps.specs.Missing.{IsMissedOrDry, map_ok};
 ghost use Rattle.head_word.specs.Books.{record_of};
-ghost use Rattle.push_body.specs.Bodies.{push_text};
 ghost use Rattle.push_body.specs.Rows.{array_text, row_text};
 ghost use Rattle.rebase.specs.Clients.{Stays};
 ghost use Rattle.rebase.specs.Readers.{lent, read_by, seen_by};
-ghost use Rattle.client_desk.specs.Answers.{CountsBy, ReadsBy, ReadsKept};
-ghost use Rattle.client_desk.specs.Told.{bytes_told, cookie_told, dry, pending_told, rows_told, tells, told};
+ghost use Rattle.client_desk.specs.Answers.{CountsBy, moment_by, read_by as known_by};
+ghost use Rattle.client_desk.specs.Told.{cookie_told, dry, pending_told, rows_told, tells, told};
 ghost use Rattle.client_desk.specs.Told.{value_told};
-ghost use Rattle.client_desk.specs.Inside.Reading.{ToldBy, ToldKept, is_pulled, is_query, query_told};
+ghost use Rattle.client_desk.specs.Inside.Reading.{PushedBy, PushedKept, ToldBy, ToldKept, is_pulled, is_query};
+ghost use Rattle.client_desk.specs.Inside.Reading.{query_told};
 ghost use Rattle.client_desk.specs.declared.outcomes.Outcome.TheVariants.{Done};
 
 use crate::calls::Call;
@@ -183,11 +183,12 @@ fn ask_reader<M: Means + Sync>(
     tell_query(alloc, tx.commit()?, call, bytes)
 }
 
-// Tells what a query is answered by a client, which reads once.
+// Tells what a query is answered by a client, which reads once, and notes its moment.
 fn ask_client<M: Means + Sync>(
     alloc: Global,
     client: &mut Client<M, Arena<M>>,
     call: Call<'_>,
+    moment: &mut u64,
     bytes: &mut Vec<u8>,
 ) -> Result<Outcome, Refusal>
     requires query { is_query call ≡ true }
@@ -200,10 +201,14 @@ fn ask_client<M: Means + Sync>(
     ensures now { IfOk result (λ outcome. told outcome bytes.new.items
         ≡ query_told (version_of M.means (after (record_of client.new.seat.mark.log))) call.entry) }
     ensures refused { IfErr result (IsMissedOrDry ⊤) }
+    ensures moment { moment.new ≡ moment_by result client.new moment.old }
     ensures stays { Stays ⊤ client.old client.new }
 {
     let tx = client.read(TRIES)?;
     let reply = ask_reader(alloc, &tx, call, bytes);
+    if reply.is_ok() {
+        *moment = tx.moment();
+    }
     tx.close();
     reply
 }
@@ -222,20 +227,43 @@ fn read_outcome(reply: Result<Outcome, Refusal>, bytes: &mut Vec<u8>) -> Outcome
 }
 
 /// Tells what a query is answered by a client, which reads once. What is told as bytes is written, none where it was
-/// refused.
+/// refused; where it was answered its moment is noted.
 pub(crate) fn tell_by_client<M: Means + Sync>(
     alloc: Global,
     client: &mut Client<M, Arena<M>>,
     call: Call<'_>,
+    moment: &mut u64,
     bytes: &mut Vec<u8>,
 ) -> Outcome
     requires query { is_query call ≡ true }
     requires empty { bytes.old.items ≡ [] }
-    ensures { ToldBy M.means client.old client.new (told result bytes.new.items)
+    ensures { ToldBy M.means client.old client.new moment.old moment.new (told result bytes.new.items)
         (λ s. query_told (version_of M.means s) call.entry) }
 {
-    let reply = ask_client(alloc, client, call, bytes);
+    let reply = ask_client(alloc, client, call, moment, bytes);
     read_outcome(reply, bytes)
+}
+
+// Tells what a query is answered by a reading that is open, and notes its moment.
+fn ask_reading<M: Means + Sync>(
+    alloc: Global,
+    reader: &Reader<M, Arena<M>>,
+    call: Call<'_>,
+    moment: &mut u64,
+    bytes: &mut Vec<u8>,
+) -> Result<Outcome, Refusal>
+    requires query { is_query call ≡ true }
+    requires empty { bytes.old.items ≡ [] }
+    ensures told { IfOk result (λ outcome. told outcome bytes.new.items
+        ≡ query_told (version_of M.means (known_by reader.now)) call.entry) }
+    ensures refused { IfErr result (IsMissedOrDry ⊤) }
+    ensures moment { moment.new ≡ moment_by result reader.now moment.old }
+{
+    let reply = tell_query(alloc, reader.tx(), call, bytes);
+    if reply.is_ok() {
+        *moment = reader.moment();
+    }
+    reply
 }
 
 /// The same by a reading that is open.
@@ -243,30 +271,32 @@ pub(crate) fn tell_by_reading<M: Means + Sync>(
     alloc: Global,
     reader: &Reader<M, Arena<M>>,
     call: Call<'_>,
+    moment: &mut u64,
     bytes: &mut Vec<u8>,
 ) -> Outcome
     requires query { is_query call ≡ true }
     requires empty { bytes.old.items ≡ [] }
-    ensures { ToldKept reader.now (told result bytes.new.items)
+    ensures { ToldKept reader.now moment.old moment.new (told result bytes.new.items)
         (λ s. query_told (version_of M.means s) call.entry) }
 {
-    let reply = tell_query(alloc, reader.tx(), call, bytes);
+    let reply = ask_reading(alloc, reader, call, moment, bytes);
     read_outcome(reply, bytes)
 }
 
-/// Tells the body of a push of what is pending, but for the oldest so many.
+/// Tells the body of a push of what is pending, but for the oldest so many, and notes its moment.
 pub(crate) fn tell_push<M: Means + Sync>(
     client: &mut Client<M, Arena<M>>,
     skip: usize,
+    moment: &mut u64,
     bytes: &mut Vec<u8>,
 ) -> Outcome
     requires { bytes.old.items ≡ [] }
-    ensures { ReadsBy bytes_told (λ s. push_text client.old.group.identity (drop skip s.pending)) M.means client.old
-        (told result bytes.new.items) client.new }
+    ensures { PushedBy skip M.means client.old client.new moment.old moment.new (told result bytes.new.items) }
 {
-    match client.push_body(skip, TRIES) {
-        Ok(body) => {
+    match client.push_with_moment(skip, TRIES) {
+        Ok((body, at)) => {
             *bytes = body;
+            *moment = at;
             Outcome::Done
         }
         Err(refusal) => Outcome::Refused(refusal),
@@ -286,15 +316,16 @@ pub(crate) fn tell_slots<M: Means>(client: &mut Client<M, Arena<M>>, bytes: &mut
 pub(crate) fn tell_push_as_of<M: Means + Sync>(
     reader: &Reader<M, Arena<M>>,
     skip: usize,
+    moment: &mut u64,
     bytes: &mut Vec<u8>,
 ) -> Outcome
     requires { bytes.old.items ≡ [] }
-    ensures { ReadsKept bytes_told (λ s. push_text reader.now.group.identity (drop skip s.pending)) reader.now
-        (told result bytes.new.items) }
+    ensures { PushedKept skip reader.now moment.old moment.new (told result bytes.new.items) }
 {
     match reader.push_body(skip) {
         Ok(body) => {
             *bytes = body;
+            *moment = reader.moment();
             Outcome::Done
         }
         Err(refusal) => Outcome::Refused(refusal),

@@ -16,7 +16,7 @@ spot desk spare = record { desk = desk; spare = spare }
 pub calls_of : (meant : Meant) (call : Numbered) (outcome : Outcome) (old new : DeskState) (spare : List DeskState)
     (before : SpotState) (reply : Reply) → spot old spare ≡ before
     → MayAnswerNumbers (has_of meant) (means_of meant) call old.place (told outcome new.bytes) new.place
-    → RepliesAt outcome new reply → Calls meant call before reply (spot new spare)
+    → RepliesAt call.what outcome new reply → Calls meant call before reply (spot new spare)
 calls_of meant call outcome old new spare before reply was answered tells =
     subst (λ b. Calls meant call b reply (spot new spare)) was (record {
       desk = new;

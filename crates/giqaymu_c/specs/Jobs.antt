@@ -11,7 +11,7 @@ use Rattle.rule_mutators.specs.Rules.{Rules}
 use Rattle.client_desk.specs.declared.faults.Fault.TheVariants as fault
 use Rattle.client_desk.specs.declared.outcomes.Outcome.{Outcome}
 use Rattle.client_desk.specs.declared.outcomes.Outcome.TheVariants.{Done, Faulty, Refused}
-use Rattle.host_places.specs.Numbers.{IsRunSaid, MayAnswerNumbers}
+use Rattle.host_places.specs.Numbers.{IsRunSaid, MayAnswerNumbers, number_beside}
 use Rattle.client_desk.specs.Numbers.{outcome_code, outcome_number, outcome_value}
 use Rattle.host_places.specs.Opening.{AreOpened, IsWant, layout_said}
 use Rattle.host_places.specs.Asking.{ran_said}
@@ -101,9 +101,11 @@ pub record Replies (outcome : Outcome) (reply : Reply) : Type 0 where
 abbrev pub RepliesBare : Outcome → Reply → Type 0
 RepliesBare outcome reply = Replies outcome reply × (reply.len ≡ 0)
 
--- with the bytes that a desk has
-pub record RepliesAt (outcome : Outcome) (desk : DeskState) (reply : Reply) : Type 0 where
-  pub told : Replies outcome reply
+-- what the call of this number came to, with the bytes that a desk has; of a query that was answered with its moment
+pub record RepliesAt (what : ℕ) (outcome : Outcome) (desk : DeskState) (reply : Reply) : Type 0 where
+  pub number : reply.number ≡ outcome_number outcome
+  pub value : reply.value ≡ number_beside what outcome desk.place.moment
+  pub code : reply.code ≡ outcome_code outcome
   pub at : reply.at ≡ desk.start
   pub len : reply.len ≡ length desk.bytes
 
@@ -145,7 +147,7 @@ pub record CallsAt (meant : Meant) (call : Numbered) (before : PlaceState) (repl
   pub outcome : Outcome
   pub answered : MayAnswerNumbers (has_of meant) (means_of meant) call before
       (told outcome after.bytes) after.place
-  pub told : RepliesAt outcome after reply
+  pub told : RepliesAt call.what outcome after reply
 
 pub record Calls (meant : Meant) (call : Numbered) (before : SpotState) (reply : Reply)
     (after : SpotState) : Type 0 where

@@ -64,13 +64,13 @@ impl<B: Picked> Spot<B> {
         Spot { desk, spare }
     }
 
-    // What a call came to, and where the bytes lie that it told.
-    fn reply(&self, outcome: Outcome) -> Reply
-        ensures { RepliesAt outcome self.now.desk result }
+    // What the call of this number came to, and where the bytes lie that it told.
+    fn reply(&self, what: u32, outcome: Outcome) -> Reply
+        ensures { RepliesAt what outcome self.now.desk result }
     {
         Reply {
             number: outcome.number(),
-            value: outcome.value(),
+            value: self.desk.number_beside(what, outcome),
             code: outcome.code(),
             at: self.desk.start(),
             len: self.desk.bytes().len(),
@@ -136,7 +136,7 @@ impl<B: Picked + Sync> Spot<B> {
         ensures { Calls B.meant call.entry self.old result self.new }
     {
         let outcome = self.desk.call_numbered(call);
-        self.reply(outcome)
+        self.reply(call.what, outcome)
     }
 }
 

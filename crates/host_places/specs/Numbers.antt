@@ -1,5 +1,5 @@
 -- How calls are asked for by numbers.
-use Rattle.std.specs.Prelude.{ℕ, ◌≡◌, ◌⊎◌, ◌<◌, ⊤, Bool, Option, Result, Ok, Err}
+use Rattle.std.specs.Prelude.{ℕ, ◌≡◌, ◌⊎◌, ◌<◌, ⊤, Bool, ◌||◌, ◌==◌, if◌then◌else◌, Option, Result, Ok, Err}
 use Rattle.group_history.specs.declared.mutators.Ran.{Ran}
 use Rattle.group_history.specs.declared.refusals.Refusal.TheVariants.{NoMemory}
 use Rattle.group_history.specs.Map.{Bytes}
@@ -13,6 +13,7 @@ use Rattle.client_desk.specs.declared.outcomes.Outcome.{Outcome}
 use Rattle.client_desk.specs.declared.outcomes.Outcome.TheVariants.{Faulty, Refused}
 use Rattle.client_desk.specs.Answers.{Rule, Tells}
 use Rattle.client_desk.specs.Calls.{MayAnswer}
+use Rattle.client_desk.specs.Numbers.{outcome_value}
 use Rattle.client_desk.specs.Runs.{IsRunTold}
 use Rattle.host_places.specs.declared.numbered.Numbered.{Numbered}
 use Rattle.host_places.specs.Asking.{named_said, put_said, ran_said, scan_said, text_said, uuid_said, writes_said}
@@ -81,6 +82,21 @@ MayAnswerNumbers has means x before t after =
     ((c : Call) × IsCall c x.what x.m x.n x.a.now x.b.now × MayAnswer has means c before t after)
     ⊎ ((e : Outcome) × SaysNothing x.what x.m x.n x.a.now x.b.now e × Tells e before t after)
     ⊎ (IsCopied x.what × Tells (Refused NoMemory) before t after)
+
+-- the queries, by their numbers: get, has, scan, pending, cookie, closed, push, and get and scan of the pulled map
+abbrev pub is_query : ℕ → Bool
+is_query what = (what == 2) || (what == 3) || (what == 4) || (what == 5) || (what == 6) || (what == 7) || (what == 9)
+    || (what == 29) || (what == 30)
+
+-- of a query that was answered: its moment, which is that of the place's last query
+abbrev pub moment_told : Outcome → ℕ → ℕ
+moment_told (Refused e) m = 0
+moment_told (Faulty e) m = 0
+moment_told other m = m
+
+-- the number that is told beside what a call came to: of a query its moment, else the one that it tells
+abbrev pub number_beside : ℕ → Outcome → ℕ → ℕ
+number_beside what outcome m = if is_query what then moment_told outcome m else outcome_value outcome
 
 -- the run that the numbers say is one of the group's meaning; where they say no end, nothing has to hold
 abbrev pub IsRunSaid : (Bytes → Bool) → Meanings → Option UnderWay → Result Ran Outcome → Type 0

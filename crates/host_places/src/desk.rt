@@ -6,9 +6,9 @@ ghost use Rattle.client_desk.specs.Closing.{Closes};
 ghost use Rattle.client_desk.specs.Drafts.{HasRunAsMeant};
 ghost use Rattle.client_desk.specs.Told.{told};
 ghost use Rattle.host_places.specs.Asking.{ran_said};
-ghost use Rattle.host_places.specs.Numbers.{HasKey, HasScan, IsRunSaid, MayAnswerNumbers};
+ghost use Rattle.host_places.specs.Numbers.{HasKey, HasScan, IsRunSaid, MayAnswerNumbers, number_beside};
 
-use crate::numbered::{Numbered, key_call, scan_call};
+use crate::numbered::{Numbered, is_query, key_call, scan_call};
 use crate::texts::{named_of, put_of, ran_of, scan_of, str_of, uuid_of, writes_of};
 use client_desk::{Call, Fault, HostRuns, Hosted, Keep, Mutate, Outcome, Place};
 use rebase::{Arena, Seat};
@@ -75,6 +75,20 @@ impl<M: Hosted> Desk<M> {
         ensures { result ≡ self.now.start }
     {
         self.bytes.as_ptr()
+    }
+
+    /// The number beside what the last call came to, which was that of the number `what`: of a query the moment at
+    /// which it was answered, as the call of number 28 tells moments; else the one that it tells, or 0.
+    pub fn number_beside(&self, what: u32, outcome: Outcome) -> u64
+        ensures { result ≡ number_beside what outcome self.now.place.moment }
+    {
+        if !is_query(what) {
+            return outcome.value();
+        }
+        match outcome {
+            Outcome::Refused(_) | Outcome::Faulty(_) => 0,
+            _ => self.place.moment_of_query(),
+        }
     }
 
     // Nothing is done: what the call was given says nothing, or memory was refused for it.

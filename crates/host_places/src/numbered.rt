@@ -2,7 +2,7 @@
 ghost use Rattle.std.specs.Prelude.{ℕ, ◌≡◌, Ok};
 ghost use Rattle.group_history.specs.Map.{Bytes};
 ghost use Rattle.host_places.specs.Asking.{scan_said, text_said};
-ghost use Rattle.host_places.specs.Numbers.{HasKey, HasScan, IsCall};
+ghost use Rattle.host_places.specs.Numbers.{HasKey, HasScan, IsCall, is_query};
 
 use client_desk::{Call, Keep};
 use group_history::Scan;
@@ -15,6 +15,13 @@ pub struct Numbered<'a> {
     pub n: u64,
     pub a: &'a [u8],
     pub b: &'a [u8],
+}
+
+/// Whether it is the number of a query, which one commit answers.
+pub(crate) fn is_query(what: u32) -> bool
+    ensures { result ≡ is_query what }
+{
+    matches!(what, 2 | 3 | 4 | 5 | 6 | 7 | 9 | 29 | 30)
 }
 
 /// The call of a number that has a key.

@@ -11,6 +11,7 @@ ghost use Rattle.group_history.specs.Refs.{stamp_of};
 ghost use Rattle.group_history.specs.Spelling.{map_at};
 ghost use Rattle.group_history.specs.State.{last_id, view_of};
 ghost use Rattle.head_word.specs.Books.{drawn, last_move, record_of};
+ghost use Rattle.head_word.specs.Laws.{moment};
 ghost use Rattle.head_word.specs.Marks.{known};
 ghost use Rattle.chunk_slots.specs.Seats.{IsIdle};
 ghost use Rattle.commit_graph.specs.LastIds.{last_at};
@@ -163,10 +164,27 @@ impl<M: Means, S: Slots<M>> Client<M, S> {
         ensures err { IfErr result (IsMissedOrDry S.reused) }
         ensures stays { Stays S.reused self.old self.new }
     {
+        let (body, _) = self.push_with_moment(skip, tries)?;
+        Ok(body)
+    }
+
+    /// The same, with the moment at which it is the body, as `Client::moment` counts them.
+    pub fn push_with_moment(&mut self, skip: usize, tries: u32) -> Result<(Vec<u8>, u64), Refusal>
+        ensures answer { IsLinearized M.means tries self.old.seat.mark self.new.seat.mark (map_ok
+            (λ pushed. pushed.0.items) result)
+            no_change (λ s. Ok (push_text self.old.group.identity (drop skip s.pending))) }
+        ensures point { IfOk result (λ _. IsPoint M.means self.old.seat.mark self.new.seat.mark None
+            self.new.seat.mark.log) }
+        ensures now { IfOk result (λ pushed. pushed.0.items ≡ push_text self.old.group.identity
+            (drop skip (after (record_of self.new.seat.mark.log)).pending)) }
+        ensures moment { IfOk result (λ pushed. pushed.1 ≡ moment self.new.seat.mark.log) }
+        ensures err { IfErr result (IsMissedOrDry S.reused) }
+        ensures stays { Stays S.reused self.old self.new }
+    {
         let at = self.pin_and_load(tries)?;
         let body = body_at(&self.here(at, tries), skip);
         self.unpin();
-        body
+        Ok((body?, at.stamp()))
     }
 
     /// The ticket of a pull: the body of its request, and the group's cookie, at which it begins (Replicache, Pull

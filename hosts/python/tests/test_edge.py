@@ -181,6 +181,20 @@ class Calls(unittest.TestCase):
         self.assertIs(pull(anna, response(1)), Ended.SAME)
         self.assertEqual((bert.moment(), first < second < third), (third, True))
 
+    def test_queries_tell_their_moment(self) -> None:
+        anna, bert = seated()
+        self.assertEqual((bert.read_at(), bert.get("a"), bert.read_at()), (0, None, bert.moment()))
+        with bert.reading() as reading:
+            anna.mutate("set", ["a", 1])
+            now = anna.moment()
+            self.assertEqual((anna.has("a"), anna.read_at(), reading.moment() < now), (True, now, True))
+            for ask in (reading.pending, reading.push, reading.cookie, reading.scan, reading.pulled_scan):
+                ask()
+                self.assertEqual(reading.read_at(), reading.moment())
+        bert.refresh()
+        self.assertLess(bert.read_at(), now)
+        self.assertEqual((bert.closed(), bert.read_at()), (False, now))
+
     def test_pulled_rows(self) -> None:
         anna, bert = seated()
         pull(anna, response(1, put("a/1", 1), put("a/2", "é"), put("b", None)))

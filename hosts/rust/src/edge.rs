@@ -49,6 +49,24 @@ pub(crate) enum What {
     DraftWrites = 34,
 }
 
+impl What {
+    /// Whether it asks what the group is, at one moment, which is told with the answer.
+    pub(crate) fn is_query(self) -> bool {
+        matches!(
+            self,
+            What::Get
+                | What::Has
+                | What::Scan
+                | What::Pending
+                | What::Cookie
+                | What::Closed
+                | What::Push
+                | What::PulledGet
+                | What::PulledScan
+        )
+    }
+}
+
 /// What a call is given: two numbers and two byte strings, of which each call uses some.
 #[derive(Clone, Copy, Default)]
 pub(crate) struct Given<'a> {

@@ -21,6 +21,8 @@ pub struct Place {
     /// The number of the client that sat down last, which no other one in this process has: its tickets and watches
     /// bear it, so that those of another client are told apart.
     client: u64,
+    /// The moment of its last query.
+    read_at: u64,
 }
 
 /// How many clients sat down.
@@ -78,13 +80,16 @@ pub(crate) fn given_scan<'a>(scan: &Scan<'a>) -> Given<'a> {
 
 impl Place {
     pub(crate) fn new(handle: Handle) -> Place {
-        Place { handle, client: 0 }
+        Place { handle, client: 0, read_at: 0 }
     }
 
     pub(crate) fn call(&mut self, what: What, given: Given<'_>) -> Result<Told<'_>, Refusal> {
         let told = self.handle.call(what, given);
         if told.returned < 0 {
             return Err(Refusal::of(told.returned, told.code));
+        }
+        if what.is_query() {
+            self.read_at = told.number;
         }
         Ok(told)
     }
@@ -162,6 +167,13 @@ impl Place {
     /// that asks before it reads pays little where nothing is new.
     pub fn moment(&mut self) -> Result<u64, Refusal> {
         Ok(self.call(What::Moment, Given::default())?.number)
+    }
+
+    /// The moment at which this place's last query was answered, as [`Place::moment`] counts them; 0 before the first.
+    /// It was told with the answer, so no call is made.
+    #[must_use]
+    pub fn read_at(&self) -> u64 {
+        self.read_at
     }
 
     /// How many slots are free, an array `[ordinary,all,retired]`: those that a change may take, those that a pull may

@@ -78,6 +78,12 @@ impl Reading<'_> {
     pub fn moment(&mut self) -> Result<u64, Refusal> {
         self.place.moment()
     }
+
+    /// As [`Place::read_at`].
+    #[must_use]
+    pub fn read_at(&self) -> u64 {
+        self.place.read_at()
+    }
 }
 
 impl Drop for Reading<'_> {

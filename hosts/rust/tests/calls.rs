@@ -107,6 +107,7 @@ fn readings() -> Result<(), Refusal> {
     assert_eq!(text(reading.scan(&Scan::default())?), rows);
     assert_eq!(reading.moment()?, moment);
     assert_eq!(reading.get("a")?.map(text), Some("2"));
+    assert_eq!(reading.read_at(), moment);
     assert_eq!((reading.has("c")?, reading.closed()?), (false, false));
     assert_eq!(text(reading.pulled_scan(&Scan::of("a"))?), r#"[["a",1]]"#);
     assert_eq!(reading.pulled_get("b")?.map(text), Some("1"));
@@ -140,6 +141,17 @@ fn moments() -> Result<(), Refusal> {
     assert!(third > second);
     assert_eq!(pull(&mut anna, &response("1", "", ""))?, Ended::Same);
     assert_eq!(bert.moment()?, third);
+    assert_eq!(bert.read_at(), 0);
+    assert_eq!(bert.get("x")?, None);
+    assert_eq!(bert.read_at(), third);
+    anna.mutate("set", r#"["a",2]"#, 0)?;
+    assert_eq!((bert.read_at(), anna.has("a")?), (third, true));
+    let fourth = anna.read_at();
+    assert!(fourth > third);
+    assert_eq!(bert.refresh()?, 0);
+    assert_eq!(bert.read_at(), third);
+    assert_eq!(bert.pulled_get("a")?.map(text), Some("1"));
+    assert_eq!(bert.read_at(), fourth);
     bert.leave()?;
     assert_eq!(bert.moment(), Err(Refusal::NoClient));
     Ok(())

@@ -1,19 +1,22 @@
 -- What queries are answered at a commit's version, and told.
-use Rattle.std.specs.Prelude.{◌≡◌, ◌==◌, ⊤, Bool, true, false, length, None, Result, Ok, IfErr, IfOk}
+use Rattle.std.specs.Prelude.{ℕ, ◌≡◌, ◌==◌, ⊤, Bool, true, false, drop, length, None, Result, Ok, IfErr, IfOk}
 use Rattle.std.specs.FinMap as finite
 use Rattle.group_history.specs.declared.refusals.Refusal.{Refusal}
+use Rattle.group_history.specs.Map.{Bytes}
 use Rattle.group_history.specs.Meaning.{Meanings}
 use Rattle.group_history.specs.Scans.{rows_of}
 use Rattle.group_history.specs.Spelling.{Version}
 use Rattle.group_history.specs.State.{State}
 use Rattle.answered.specs.Answered.{IsLinearized, IsPoint, no_change}
 use Rattle.group_steps.specs.Missing.{IsMissedOrDry}
+use Rattle.push_body.specs.Bodies.{push_text}
 use Rattle.rebase.specs.Clients.{ClientState, Stays}
 use Rattle.client_desk.specs.declared.calls.Call.{Call}
 use Rattle.client_desk.specs.declared.calls.Call.TheVariants as call
 use Rattle.client_desk.specs.declared.outcomes.Outcome.TheVariants.{Nothing}
-use Rattle.client_desk.specs.Answers.{read_by, tries}
-use Rattle.client_desk.specs.Told.{Told, cookie_told, is_told, pending_told, rows_told, tells, told_alone, value_told}
+use Rattle.client_desk.specs.Answers.{ReadsBy, ReadsKept, moment_by, read_by, tries}
+use Rattle.client_desk.specs.Told.{Told, bytes_told, cookie_told, is_told, pending_told, rows_told, tells}
+use Rattle.client_desk.specs.Told.{told_alone, value_told}
 
 -- it reads what the server last sent
 abbrev pub is_pulled : Call → Bool
@@ -45,8 +48,9 @@ query_told v call.Cookie = cookie_told v.state.cookie
 query_told v call.Closed = is_told v.state.closed
 query_told v other = told_alone Nothing
 
--- A client read once, and what it told is right where it read.
-pub record ToldBy (means : Meanings) (client next : ClientState) (t : Told) (right : State → Told) : Type 0 where
+-- A client read once, and what it told is right where it read. The moment that was noted before is n, then m.
+pub record ToldBy (means : Meanings) (client next : ClientState) (n m : ℕ) (t : Told) (right : State → Told)
+    : Type 0 where
   pub reply : Result Told Refusal
   pub answer : IsLinearized means tries client.seat.mark next.seat.mark reply no_change (λ s. Ok (right s))
   pub point : IfOk reply (λ x. IsPoint means client.seat.mark next.seat.mark None next.seat.mark.log)
@@ -54,10 +58,24 @@ pub record ToldBy (means : Meanings) (client next : ClientState) (t : Told) (rig
   pub refused : IfErr reply (IsMissedOrDry ⊤)
   pub stays : Stays ⊤ client next
   pub told : t ≡ tells (λ x. x) reply
+  pub moment : m ≡ moment_by reply next n
 
 -- What an open reading told is right where it reads.
-pub record ToldKept (reader : ClientState) (t : Told) (right : State → Told) : Type 0 where
+pub record ToldKept (reader : ClientState) (n m : ℕ) (t : Told) (right : State → Told) : Type 0 where
   pub reply : Result Told Refusal
   pub answer : IfOk reply (λ x. x ≡ right (read_by reader))
   pub refused : IfErr reply (IsMissedOrDry ⊤)
   pub told : t ≡ tells (λ x. x) reply
+  pub moment : m ≡ moment_by reply reader n
+
+-- a body of a push that a client wrote, or an open reading
+abbrev pub pushed_by : ℕ → ClientState → State → Bytes
+pushed_by skip client s = push_text client.group.identity (drop skip s.pending)
+
+abbrev pub PushedBy : ℕ → Meanings → ClientState → ClientState → ℕ → ℕ → Told → Type 0
+PushedBy skip means client next n m t = (read : ReadsBy bytes_told (pushed_by skip client) means client t next)
+    × (m ≡ moment_by read.reply next n)
+
+abbrev pub PushedKept : ℕ → ClientState → ℕ → ℕ → Told → Type 0
+PushedKept skip reader n m t = (read : ReadsKept bytes_told (pushed_by skip reader) reader t)
+    × (m ≡ moment_by read.reply reader n)

@@ -321,6 +321,22 @@ class _What(enum.IntEnum):
     DRAFT_WRITES = 34
 
 
+# The calls that ask what the group is, at one moment, which is told with the answer.
+_ASKING = frozenset(
+    [
+        _What.GET,
+        _What.HAS,
+        _What.SCAN,
+        _What.PENDING,
+        _What.COOKIE,
+        _What.CLOSED,
+        _What.PUSH,
+        _What.PULLED_GET,
+        _What.PULLED_SCAN,
+    ]
+)
+
+
 class Version(NamedTuple):
     """A version of the library; with another major or minor number it is refused with `Why.BAD_VERSION`."""
 
@@ -509,6 +525,13 @@ class _Queries(_Calls):
         """
         return self._call(_What.MOMENT).number
 
+    def read_at(self) -> int:
+        """The moment at which the place's last query was answered, as `moment` counts them; 0 before the first.
+
+        It was told with the answer, so no call is made.
+        """
+        raise NotImplementedError
+
 
 class Place(_Queries):
     """A place at a group, at which a client sits down, makes its calls and leaves.
@@ -523,6 +546,7 @@ class Place(_Queries):
         self._giq_call = _library().giq_call
         self._mutators = mutators
         self._answer = _Answer()
+        self._read_at = 0
         # A mutator of the program's own runs while its change has the place.
         self._lock = threading.RLock()
         # The client that sat down last: its tickets and watches bear it, so that those of another client are told
@@ -537,7 +561,12 @@ class Place(_Queries):
             if returned < 0:
                 raise Refusal(Why(returned), answer.code)
             told = ctypes.string_at(answer.at, answer.len) if answer.len else b""
+            if what in _ASKING:
+                self._read_at = answer.number
             return _Told(returned, told, answer.number)
+
+    def read_at(self) -> int:  # noqa: D102
+        return self._read_at
 
     def close(self) -> None:
         """Closes the place, with the client that sits there; what the client made stays pending in the group."""
@@ -739,6 +768,9 @@ class Reading(_Queries):
         if not self._is_open:
             raise Refusal(Why.NOT_READ)
         return self._place._call(what, m, n, a, b)
+
+    def read_at(self) -> int:  # noqa: D102
+        return self._place.read_at()
 
 
 class Draft(_Calls):

@@ -1,7 +1,8 @@
+use Rattle.std.proofs.Common.{◌∙◌}
 use Rattle.group_steps.specs.Missing.{map_ok}
 use Rattle.client_desk.specs.declared.outcomes.Outcome.{Outcome}
 use Rattle.client_desk.specs.Told.{told}
-use Rattle.client_desk.proofs.Querying.{err_mapped, ok_mapped}
+use Rattle.client_desk.proofs.Querying.{err_mapped, moment_mapped, ok_mapped}
 use Rattle.client_desk.proofs.reading.tell_by_client.Goals as goal
 
 pub returns : goal.returns
@@ -15,4 +16,6 @@ returns g c =
       refused = err_mapped telling _ reply c.ask_client-reply.ensures.refused;
       stays = c.ask_client-reply.ensures.stays;
       told = c.read_outcome.ensures;
+      moment = c.ask_client-reply.ensures.moment
+          ∙ moment_mapped telling reply c.ask_client-reply.new.client c.args.moment.now;
     }

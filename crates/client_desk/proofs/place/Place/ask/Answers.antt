@@ -8,13 +8,13 @@ pub returns-in-Client : goal.returns-in-Client
 returns-in-Client g c =
     let here = rw c.in-Client.is at c.self.view_is in
     told_client g.M.Means.means _ c.args.self.now c.in-Client.client c.tell_by_client.new.client
-    (told c.tell_by_client.result c.tell_by_client.new.bytes.items) c.args.call here refl refl c.requires.query
-    c.tell_by_client.ensures
+    c.tell_by_client.new.moment (told c.tell_by_client.result c.tell_by_client.new.bytes.items) c.args.call here refl
+    refl c.requires.query c.tell_by_client.ensures
 
 pub returns-in-Reading : goal.returns-in-Reading
 returns-in-Reading g c =
     let here = rw c.in-Reading.is at c.self.view_is in
-    told_reader g.M.Means.means _ c.args.self.now c.in-Reading.reader
+    told_reader g.M.Means.means _ c.args.self.now c.in-Reading.reader c.tell_by_reading.new.moment
     (told c.tell_by_reading.result c.tell_by_reading.new.bytes.items) c.args.call here refl c.requires.query
     c.tell_by_reading.ensures
 
