@@ -106,7 +106,8 @@ class Lines(Scripts):
     def other_name(self, name: str) -> list[bytes]:
         """A name that the client maybe didn't make, or that no client has."""
         watch, ticket = self.pick(("w", "v", "t", "u")), self.pick(("t", "u", "w9", "T"))
-        lines = (f"poll {watch}", f"unwatch {watch}", f"end {ticket} {{}}", "learn Q", f"learn {name.lower()}", f"learn {name}")
+        watched = (f"poll {watch}", f"changes {watch}", f"unwatch {watch}")
+        lines = (*watched, f"end {ticket} {{}}", "learn Q", f"learn {name.lower()}", f"learn {name}")
         return [f"{name} {self.pick(lines)}".encode()]
 
     def spoilt_call(self, name: str) -> list[bytes]:

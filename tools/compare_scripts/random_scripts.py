@@ -98,6 +98,8 @@ ODD_LINES = (
     "A pulled scan - -",
     "A unwatch",
     "A unwatch zz",
+    "A changes",
+    "A changes zz",
     "A empty x",
     "A closed x",
 )
@@ -201,7 +203,7 @@ class Scripts:
     def poll(self, name: str) -> list[str]:
         own = [watch for client, watch in self.watches if client == name]
         if own and self.chance(0.8):
-            return [f"{name} {self.pick(('poll', 'poll', 'poll', 'poll', 'unwatch'))} {self.pick(own)}"]
+            return [f"{name} {self.pick(('poll', 'poll', 'poll', 'changes', 'changes', 'unwatch'))} {self.pick(own)}"]
         watch = self.pick(("w", "v", "t"))
         self.watches.append((name, watch))
         return [f"{name} watch {watch} {self.scan()}"] + [f"{name} poll {watch}"] * self.chance(0.8)

@@ -1,6 +1,7 @@
 """The script language, as docs/SCRIPT.md has it: what a script says, and what it prints."""
 
 import re
+from collections.abc import Callable
 from typing import Any, NamedTuple
 
 from model import Group, mutated, scanned
@@ -12,7 +13,7 @@ UNTOLD = ("moment", "slots")
 BARE_COMMANDS = ("empty", "closed", "pending", "cookie", "refresh", *UNTOLD)
 KEY_COMMANDS = ("get", "has", "pulled get")
 SCAN_COMMANDS = ("scan", "pulled scan")
-WATCH_COMMANDS = ("poll", "unwatch")
+WATCH_COMMANDS = ("poll", "changes", "unwatch")
 COMMANDS = (
     *BARE_COMMANDS,
     *KEY_COMMANDS,
@@ -39,6 +40,7 @@ class Fault(Exception):
 
 
 Scan = tuple[str, str, int | None]
+Pairs = list[list[Any]]
 
 
 class Line(NamedTuple):
@@ -200,12 +202,26 @@ def args_of(text: str) -> Any:
     return args
 
 
+def changes_between(old: Pairs, new: Pairs) -> list[dict[str, Any]]:
+    """Of each key that has another value than before, what it was and what it is."""
+    before, after = ({key: value for key, value in rows} for rows in (old, new))
+    changes = []
+    for key in sorted(before | after, key=str.encode):
+        if key not in after:
+            changes.append({"key": key, "oldValue": before[key], "op": "del"})
+        elif key not in before:
+            changes.append({"key": key, "newValue": after[key], "op": "add"})
+        elif compact(before[key]) != compact(after[key]):
+            changes.append({"key": key, "newValue": after[key], "oldValue": before[key], "op": "change"})
+    return changes
+
+
 class Client:
     def __init__(self, id: str) -> None:
         self.id = id
         self.last = 0
         self.tickets: dict[str, str] = {}
-        self.watches: dict[str, tuple[Scan, str | None]] = {}
+        self.watches: dict[str, tuple[Scan, Pairs | None]] = {}
 
     def reply(self, group: Group, command: str, words: Any) -> str:
         try:
@@ -273,12 +289,18 @@ class Client:
         return "unwatched" if self.watches.pop(name, None) else "no watch"
 
     def poll(self, group: Group, name: str) -> str:
+        return self.polled(group, name, lambda _, rows: f"new {compact(rows)}")
+
+    def changes(self, group: Group, name: str) -> str:
+        return self.polled(group, name, lambda last, rows: f"changes {compact(changes_between(last or [], rows))}")
+
+    def polled(self, group: Group, name: str, told: Callable[[Pairs | None, Pairs], str]) -> str:
         if name not in self.watches:
             return "no watch"
         scan, last = self.watches[name]
-        rows = compact(group.scan(*scan))
+        rows = group.scan(*scan)
         self.watches[name] = (scan, rows)
-        return "unchanged" if rows == last else f"new {rows}"
+        return "unchanged" if last is not None and compact(rows) == compact(last) else told(last, rows)
 
 
 def kind(reply: str) -> str:

@@ -189,9 +189,11 @@ unfolding watched_line
 watched_line-sound c client name rest sound =
     IfOk-if (same_text name (codes "poll")) _ _ SoundWith
     (λ is. with_part-sound (λ n. (c, command.Poll n)) (watch_word c client rest) (λ n. (sound, tt)))
+    (λ other. IfOk-if (same_text name (codes "changes")) _ _ SoundWith
+    (λ is. with_part-sound (λ n. (c, command.Changes n)) (watch_word c client rest) (λ n. (sound, tt)))
     (λ other. IfOk-if (same_text name (codes "unwatch")) _ _ SoundWith
     (λ is. with_part-sound (λ n. (c, command.Unwatch n)) (watch_word c client rest) (λ n. (sound, tt)))
-    (λ no. look_line-sound c name rest sound))
+    (λ no. look_line-sound c name rest sound)))
 
 named_command-sound : (c : Context) (client : ℕ) (name : Bytes) (rest : Option Bytes) → Sound c
     → IfOk (named_command c client name rest) SoundWith

@@ -192,6 +192,7 @@ look_line c name rest =
 unfoldable pub watched_line : Context → ℕ → Bytes → Option Bytes → Told
 watched_line c client name rest =
     if same_text name (codes "poll") then with_part (λ n. (c, command.Poll n)) (watch_word c client rest)
+    else if same_text name (codes "changes") then with_part (λ n. (c, command.Changes n)) (watch_word c client rest)
     else if same_text name (codes "unwatch") then with_part (λ n. (c, command.Unwatch n)) (watch_word c client rest)
     else look_line c name rest
 

@@ -142,6 +142,9 @@ impl Parser {
         if name == "poll" {
             return Ok(Command::Poll(self.watch_of(client, rest)?));
         }
+        if name == "changes" {
+            return Ok(Command::Changes(self.watch_of(client, rest)?));
+        }
         if name == "unwatch" {
             return Ok(Command::Unwatch(self.watch_of(client, rest)?));
         }

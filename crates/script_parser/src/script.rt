@@ -78,6 +78,8 @@ pub enum Command {
     Watch(usize, Scan),
     /// Poll the watch of this number.
     Poll(usize),
+    /// Poll it for what changed.
+    Changes(usize),
     /// Give the watch of this number up.
     Unwatch(usize),
 }

@@ -26,7 +26,8 @@ use Rattle.rebase.specs.Asking.{end_bytes_reply}
 use Rattle.rebase.specs.Calls.{asked_mutation, caller_of, change_of, reply_to}
 use Rattle.rebase.specs.Clients.{ClientState}
 use Rattle.rebase.specs.Queries.{asked_at, Asked as Begun}
-use Rattle.rebase.specs.Watching.{poll_at}
+use Rattle.rebase.specs.Watching.{Watched, poll_at}
+use Rattle.rebase.specs.declared.watching.Polled.{Polled}
 use Rattle.rebase.specs.declared.calls.Call.{Call as Changing}
 use Rattle.rebase.specs.declared.calls.Call.TheVariants as changing
 use Rattle.rebase.specs.declared.calls.Mutate.{Mutate}
@@ -39,7 +40,7 @@ use Rattle.client_desk.specs.declared.faults.Fault.{Fault}
 use Rattle.client_desk.specs.declared.faults.Fault.TheVariants as fault
 use Rattle.client_desk.specs.declared.outcomes.Outcome.TheVariants.{Done, Faulty, Number}
 use Rattle.client_desk.specs.Answers.{AsksAs, At, Begins, ByClient, CountsBy, CountsFree, IsBegun, Lacks, Polls}
-use Rattle.client_desk.specs.Answers.{Reads, Refreshes, TellsMoment, TellsMomentAs}
+use Rattle.client_desk.specs.Answers.{PollsChanges, Reads, Refreshes, TellsChanges, TellsMoment, TellsMomentAs}
 use Rattle.client_desk.specs.Answers.{Asks as Queries}
 use Rattle.client_desk.specs.Answers.{Rule, Unwatches, Watches, absent, made_room, tries}
 use Rattle.client_desk.specs.Inside.Sitting.{IsCalm}
@@ -59,10 +60,10 @@ use Rattle.script_parser.specs.declared.script.Query.TheVariants as query
 use Rattle.script_runner.specs.Answering.{moment_seen, record_seen}
 use Rattle.script_runner.specs.Inside.Exact.{IsExact}
 use Rattle.script_runner.specs.Commanding.{Asks, AsksQuery, Learns, MayTell}
-use Rattle.script_runner.specs.Plain.{IsDone, Plain, counted, ended, if_kept, looked, mutated, plain}
-use Rattle.script_runner.specs.Plain.{query_told}
+use Rattle.script_runner.specs.Plain.{IsDone, Plain, changed, counted, ended, if_kept, looked, mutated}
+use Rattle.script_runner.specs.Plain.{plain, query_told}
 use Rattle.script_runner.specs.Sights.{sight_at}
-use Rattle.script_runner.proofs.Replying.{ended_means, ended_says, id_means, id_says, replies, tells_right}
+use Rattle.script_runner.proofs.Replying.{ended_means, ended_says, id_means, id_says, replies, says_right, tells_right}
 
 module _ (means : Meanings) (seen : Option Known) (c d : ClientState) (b a : PlaceState) (t : Told)
     (sat : b.client ≡ Some c) (calm : IsCalm b) (sits : a.client ≡ Some d)
@@ -322,6 +323,27 @@ module _ (means : Meanings) (seen : Option Known) (c d : ClientState) (b a : Pla
       (by_client (λ x p. At (kept_at p.watches k) fault.NoWatch (λ watch. Polls means x k watch) p) done)) h)
   by_poll n other asked h = absurd asked
 
+  by_changed : (k : ℕ) (watch : Watched) → PollsChanges means c k watch b t a
+      → Is (changed watch (poll_at means watch now))
+  by_changed k watch r =
+      let there : a.client ≡ Some r.next = ap (λ (q : PlaceState). q.client) r.left in
+      let right : State → Result Polled Refusal = λ s. Ok (poll_at means watch s) in
+      subst (IsDone (changed watch (poll_at means watch now)) t (record_seen seen)) (sym (seen_by r.next there))
+      (says_right (TellsChanges watch) (changed watch (poll_at means watch now)) t (record_seen seen)
+      (record_of r.next.seat.mark.log) r.reply no_change right r.told (λ e h. h) (λ h. h) refl
+      (replies means seen tries c.seat.mark r.next.seat.mark r.reply no_change right (exact_by r.next there) r.answer))
+
+  by_changes : (n : ℕ) (made : Call) → Asks (command.Changes n) made → MayAnswerWaiting means made b t a
+      → Is (the (command.Changes n))
+  by_changes n (call.PollChanges k) asked h =
+      subst (λ j. Is (the (command.Changes j))) asked
+      (by_calm (call.PollChanges k) (the (command.Changes k))
+      (λ done.
+      by_kept (kept_at b.watches k) fault.NoWatch (λ watch. PollsChanges means c k watch)
+      (λ watch. changed watch (poll_at means watch now)) (λ watch r. by_changed k watch r)
+      (by_client (λ x p. At (kept_at p.watches k) fault.NoWatch (λ watch. PollsChanges means x k watch) p) done)) h)
+  by_changes n other asked h = absurd asked
+
   by_unwatch : (n : ℕ) (made : Call) → Asks (command.Unwatch n) made → MayAnswerWaiting means made b t a
       → Is (the (command.Unwatch n))
   by_unwatch n (call.Unwatch k) asked h =
@@ -350,4 +372,5 @@ module _ (means : Meanings) (seen : Option Known) (c d : ClientState) (b a : Pla
       only_told (told_alone Done) h.told (by_learning (kept_at sights other) h.learnt)
   plainly sights (command.Watch n scan) h = by_watch n scan h.made h.asked h.may
   plainly sights (command.Poll n) h = by_poll n h.made h.asked h.may
+  plainly sights (command.Changes n) h = by_changes n h.made h.asked h.may
   plainly sights (command.Unwatch n) h = by_unwatch n h.made h.asked h.may

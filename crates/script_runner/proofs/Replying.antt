@@ -13,7 +13,8 @@ use Rattle.answered.specs.Answered.{IsLinearized, IsRefused, is_mute, is_resourc
 use Rattle.group_steps.specs.Missing.{map_ok}
 use Rattle.rebase.specs.Calls.{ended_in, id_in}
 use Rattle.rebase.specs.Replies as replied
-use Rattle.client_desk.specs.Told.{Told, ended_told, id_told, replied_told, tells}
+use Rattle.client_desk.specs.declared.outcomes.Outcome.TheVariants.{Refused}
+use Rattle.client_desk.specs.Told.{Told, ended_told, id_told, replied_told, tells, told_alone}
 use Rattle.script_runner.specs.Answering.{record_seen}
 use Rattle.script_runner.specs.Inside.Exact.{IsExact}
 use Rattle.script_runner.specs.Plain.{IsDone, Plain}
@@ -51,18 +52,28 @@ replies means seen n old new (Ok x) change right exact is =
 replies means seen n old new (Err e) change right exact is =
     refuses means seen n old new e (Err e) right (change (Err e)) (is_mute e (change (Err e))) refl refl exact is
 
--- so it is told
+-- so it is told, where a refusal is told as one
+pub says_right : {X : Type 0} (saying : Result X Refusal → Told → Type 0) (is : Plain) (t : Told)
+    (old new : List Change) (reply : Result X Refusal) (change : Result X Refusal → Option Change)
+    (right : State → Result X Refusal) → saying reply t
+    → ((e : Refusal) → saying (Err e) t → t ≡ told_alone (Refused e))
+    → (saying (right (after old)) t → is.says t) → change (right (after old)) ≡ is.change
+    → IsRight old new reply change right → IsDone is t old new
+says_right saying is t old new reply change right said refused says_is change_is (inl done) =
+    inl (
+      says_is (subst (λ r. saying r t) done.0 said),
+      done.1 ∙ ap (λ c. old ++ with_change c []) (ap change done.0 ∙ change_is),
+    )
+says_right saying is t old new reply change right said refused says_is change_is (inr want) =
+    inr ((want.0, want.1, refused want.0 (subst (λ r. saying r t) want.2 said)), want.3)
+
 pub tells_right : {X : Type 0} (tell : X → Told) (is : Plain) (t : Told) (old new : List Change) (reply : Result X Refusal)
     (change : Result X Refusal → Option Change) (right : State → Result X Refusal) → t ≡ tells tell reply
     → is.says (tells tell (right (after old))) → change (right (after old)) ≡ is.change
     → IsRight old new reply change right → IsDone is t old new
-tells_right tell is t old new reply change right said told_is change_is (inl done) =
-    inl (
-      subst is.says (sym (said ∙ ap (tells tell) done.0)) told_is,
-      done.1 ∙ ap (λ c. old ++ with_change c []) (ap change done.0 ∙ change_is),
-    )
-tells_right tell is t old new reply change right said told_is change_is (inr want) =
-    inr ((want.0, want.1, said ∙ ap (tells tell) want.2), want.3)
+tells_right tell is t old new reply change right said told_is change_is =
+    says_right (λ r x. x ≡ tells tell r) is t old new reply change right said (λ e h. h)
+    (λ h. subst is.says (sym h) told_is) change_is
 
 pub id_says : (r : Result ℕ Refusal) → tells replied_told (map_ok replied.id r) ≡ tells id_told r
 id_says (Ok n) = refl

@@ -64,6 +64,7 @@ sits_none command.Slots id h = h
 sits_none (command.Learn place) id h = h
 sits_none (command.Watch n scan) id h = h
 sits_none (command.Poll n) id h = h
+sits_none (command.Changes n) id h = h
 sits_none (command.Unwatch n) id h = h
 
 leaves_none : (c : Command) → Asks c call.Leave → ⊥
@@ -77,6 +78,7 @@ leaves_none command.Slots h = h
 leaves_none (command.Learn place) h = h
 leaves_none (command.Watch n scan) h = h
 leaves_none (command.Poll n) h = h
+leaves_none (command.Changes n) h = h
 leaves_none (command.Unwatch n) h = h
 
 begins_no_query : (q : Query) → AsksQuery q call.BeginRead → ⊥
@@ -102,6 +104,7 @@ begins_none command.Slots h = h
 begins_none (command.Learn place) h = h
 begins_none (command.Watch n scan) h = h
 begins_none (command.Poll n) h = h
+begins_none (command.Changes n) h = h
 begins_none (command.Unwatch n) h = h
 
 -- a place with another client is as calm

@@ -56,6 +56,7 @@ Asks command.Moment call.Moment = ⊤
 Asks command.Slots call.Slots = ⊤
 Asks (command.Watch n scan) (call.Watch keep s) = (keep ≡ At n) × (s.now ≡ scan)
 Asks (command.Poll n) (call.Poll m) = m ≡ n
+Asks (command.Changes n) (call.PollChanges m) = m ≡ n
 Asks (command.Unwatch n) (call.Unwatch m) = m ≡ n
 Asks c other = ⊥
 

@@ -3,7 +3,7 @@
 -- The state is the group's: the one after all changes so far. The last id, the tickets and the watches are the client's
 -- own. The number of the moment is that of what the line has seen, and how many slots are free nothing says. Nothing
 -- else is asked: so but for these two a line is answered by a function of what the lines before have done.
-use Rattle.std.specs.Prelude.{ℕ, ◌≡◌, ◌⊎◌, ◌+◌, true, List, [], ◌++◌, drop, Option, Some, None}
+use Rattle.std.specs.Prelude.{ℕ, ◌≡◌, ◌⊎◌, ◌+◌, true, List, [], ◌++◌, drop, Option, Some, None, Ok}
 use Rattle.std.specs.FinMap as finite
 use Rattle.group_history.specs.declared.changes.Change.{Change}
 use Rattle.group_history.specs.declared.mutations.Mutation.{Mutation}
@@ -28,6 +28,8 @@ use Rattle.rebase.specs.Clients.{ClientState}
 use Rattle.rebase.specs.Counting.{SlotCounts}
 use Rattle.rebase.specs.Queries.{asked_at}
 use Rattle.rebase.specs.Watching.{Watched, poll_at}
+use Rattle.rebase.specs.declared.watching.Polled.{Polled}
+use Rattle.client_desk.specs.Answers.{TellsChanges}
 use Rattle.client_desk.specs.declared.faults.Fault.{Fault}
 use Rattle.client_desk.specs.declared.faults.Fault.TheVariants.{NoTicket, NoWatch}
 use Rattle.client_desk.specs.declared.outcomes.Outcome.TheVariants.{Done, Faulty, Number, Refused}
@@ -53,6 +55,10 @@ looked this = record { says = λ t. t ≡ this; change = None }
 -- slots were counted; how many are free the state doesn't say
 abbrev pub counted : Plain
 counted = record { says = λ t. (counts : SlotCounts) × (t ≡ slots_told counts); change = None }
+
+-- what a poll tells is told by what changed since the last one: one list of changes is right (`changes_laws`)
+abbrev pub changed : Watched → Polled → Plain
+changed watch polled = record { says = TellsChanges watch (Ok polled); change = None }
 
 -- by what is kept under a number, or the fault where nothing is
 abbrev pub if_kept : {X : Type 0} → Option X → Fault → (X → Plain) → Plain
@@ -100,6 +106,8 @@ module _ (means : Meanings) (s : State) (by : Caller) where
   plain tickets watches moment (command.Watch n scan) = looked (told_alone (Number n))
   plain tickets watches moment (command.Poll n) = if_kept (kept_at watches n) NoWatch
       (λ watch. looked (polled_told (poll_at means watch s)))
+  plain tickets watches moment (command.Changes n) = if_kept (kept_at watches n) NoWatch
+      (λ watch. changed watch (poll_at means watch s))
   plain tickets watches moment (command.Unwatch n) = if_kept (kept_at watches n) NoWatch (λ watch. looked (told_alone Done))
 
 -- a refusal for want of something: of memory, of a slot or of a stamp

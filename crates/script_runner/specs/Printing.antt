@@ -38,12 +38,14 @@ done_word command.Slots = codes "slots "
 done_word (command.Learn place) = codes "learnt"
 done_word (command.Watch n scan) = codes "watching"
 done_word (command.Poll n) = codes "new "
+done_word (command.Changes n) = codes "changes "
 done_word (command.Unwatch n) = codes "unwatched"
 
 -- of one for which there is nothing
 abbrev pub nothing_word : Command → Bytes
 nothing_word (command.End n body) = codes "same"
 nothing_word (command.Poll n) = codes "unchanged"
+nothing_word (command.Changes n) = codes "unchanged"
 nothing_word other = codes "none"
 
 -- the number that is told, where it is an id or a moment's; those of tickets and watches are not printed, as scripts

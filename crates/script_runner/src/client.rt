@@ -59,6 +59,7 @@ impl<M: Mutators + Drop> ScriptClient<M> {
                 self.make(rt, command, Call::Watch(Keep::At(*number), scan), bytes)
             }
             Command::Poll(number) => self.make(rt, command, Call::Poll(*number), bytes),
+            Command::Changes(number) => self.make(rt, command, Call::PollChanges(*number), bytes),
             Command::Unwatch(number) => self.make(rt, command, Call::Unwatch(*number), bytes),
         }
     }

@@ -40,6 +40,7 @@ fn done_word(command: &Command) -> &'static str
         Command::Learn(_) => "learnt",
         Command::Watch(_, _) => "watching",
         Command::Poll(_) => "new ",
+        Command::Changes(_) => "changes ",
         Command::Unwatch(_) => "unwatched",
     }
 }
@@ -50,7 +51,7 @@ fn nothing_word(command: &Command) -> &'static str
 {
     match command {
         Command::End(_, _) => "same",
-        Command::Poll(_) => "unchanged",
+        Command::Poll(_) | Command::Changes(_) => "unchanged",
         _ => "none",
     }
 }

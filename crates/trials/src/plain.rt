@@ -248,7 +248,9 @@ impl Player {
     ) -> bool {
         match command {
             Command::Learn(_) => out.say("learnt"),
-            Command::Moment | Command::Slots => out.say("nothing of a trial"),
+            Command::Moment | Command::Slots | Command::Changes(_) => {
+                out.say("nothing of a trial");
+            }
             Command::Watch(number, scan) => self.say_watch(*number, scan, out),
             Command::Poll(number) => self.say_poll(plain, *number, out),
             Command::Unwatch(number) => self.unwatch(*number, out),

@@ -299,7 +299,9 @@ impl<'g, S: Store<ScriptMutators> + Drop> Player<'g, S> {
             Command::Watch(number, scan) => self.watch(*number, scan, out),
             Command::Poll(number) => self.poll(it, *number, way.tries, out),
             Command::Unwatch(number) => self.unwatch(*number, out),
-            Command::Moment | Command::Slots => out.say("nothing of a trial"),
+            Command::Moment | Command::Slots | Command::Changes(_) => {
+                out.say("nothing of a trial");
+            }
             Command::Query(Query::Scan(scan)) => self.scan(it, scan, way.tries, out),
             Command::Query(query) => self.ask(it, query, way.tries, out),
             _ => {}
@@ -315,7 +317,7 @@ impl<'g, S: Store<ScriptMutators> + Drop> Player<'g, S> {
         out: &mut Said,
     ) -> bool {
         let is_other = match command {
-            Command::Learn(_) | Command::Moment | Command::Slots => true,
+            Command::Learn(_) | Command::Moment | Command::Slots | Command::Changes(_) => true,
             Command::Watch(..) | Command::Poll(_) | Command::Unwatch(_) => true,
             Command::Query(Query::Scan(_)) => way.manner == Manner::Into,
             Command::Query(query) => is_no_call(query),
