@@ -26,7 +26,7 @@ use head_word::{Mark, one_record};
 use map_chunks::covers::Cover;
 use std::alloc::Global;
 use std::marker::Model;
-use transactions::{ReadTx as CommitTx, TakesRows};
+use transactions::{ReadTx as CommitTx, Rescanned, Spans, TakesRows};
 
 /// A commit, the root of its map, and a mark by which its state is that of the mark's record.
 #[derive(Drop)]
@@ -224,6 +224,26 @@ impl<'a, M: Means, S: Slots<M>> ReadTx<'a, M, S> {
     {
         let mut tx = self.commit()?;
         Ok(tx.cover(scan)?)
+    }
+
+    // The rows that the scan asks for, its limit aside, beside those of before, of which these spans are known.
+    pub(crate) fn scan_again(
+        &self,
+        scan: &Scan,
+        before: &[(Text, Json)],
+        known: &Spans,
+    ) -> Result<Rescanned, Refusal> {
+        let mut tx = self.commit()?;
+        Ok(tx.scan_again(scan, before, known)?)
+    }
+
+    // What has been seen there, and what the mark has seen.
+    pub(crate) fn mark_with(&self, other: &Mark<M>) -> Mark<M> {
+        let mut mark = self.at.mark();
+        let client = &*self.client;
+        let group: &SharedGroup<M, S> = &client.group;
+        group.shared.head.learn(&mut mark, other);
+        mark
     }
 
     /// Whether the view has no key. Takes no memory.

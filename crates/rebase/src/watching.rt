@@ -31,7 +31,7 @@ use map_chunks::covers::Cover;
 use std::alloc::{AllocError, Global};
 use std::marker::{Brand, Model};
 use std::sync::Arc;
-use transactions::{PreviousRows, RowDiff};
+use transactions::{PreviousRows, Rescanned, RowDiff, Spans};
 
 /// Rows that were answered, in the order of their keys. They are shared: a clone copies none.
 #[derive(Drop)]
@@ -100,7 +100,17 @@ pub enum Polled {
 pub(crate) struct LastAnswer {
     root: Ref,
     cover: Cover,
+    spans: Spans,
     rows: Rows,
+}
+
+// What a poll finds: the rows, if they are others than those that were answered last, or the first ones; their spans;
+// and what has been seen by then.
+#[derive(Drop)]
+struct Found<M: Means> {
+    others: Option<Vec<(Text, Json)>>,
+    spans: Spans,
+    mark: Mark<M>,
 }
 
 fn copy_of(last: &Option<LastAnswer>) -> Result<Option<LastAnswer>, AllocError>
@@ -110,6 +120,7 @@ fn copy_of(last: &Option<LastAnswer>) -> Result<Option<LastAnswer>, AllocError>
         Some(told) => Ok(Some(LastAnswer {
             root: told.root,
             cover: told.cover.clone()?,
+            spans: told.spans.clone()?,
             rows: told.rows.clone()?,
         })),
         None => Ok(None),
@@ -132,6 +143,25 @@ fn others_than<B: PreviousRows, M: Means, S: Slots<M>>(
     let mut beside = RowDiff::<'_, B>::new(tx.alloc(), before);
     tx.scan_into(scan, &mut beside)?;
     Ok(beside.into_others()?)
+}
+
+// The first rows of a scan with no limit, and their spans.
+fn read_first<M: Means, S: Slots<M>>(
+    tx: &ReadTx<'_, M, S>,
+    scan: &Scan,
+) -> Result<Found<M>, Refusal> {
+    let none = Spans::none(tx.alloc())?;
+    let before = Vec::new(tx.alloc());
+    let Rescanned { others, spans } = tx.scan_again(scan, before.as_slice(), &none)?;
+    let rows = match others {
+        Some(rows) => rows,
+        None => before,
+    };
+    Ok(Found {
+        others: Some(rows),
+        spans,
+        mark: tx.point().mark(),
+    })
 }
 
 /// A scan that is polled. It keeps the rows that it answered last, in memory and in no slot. It may be polled by any
@@ -215,52 +245,80 @@ impl<M: Means> Watch<M> {
     }
 
     // Keeps the rows that were read there as the last ones.
-    fn keep(&mut self, at: &Point<M>, cover: Cover, rows: Rows)
-        requires book { self.old.book ≡ at.now.book }
+    fn keep(&mut self, at: &Point<M>, mark: Mark<M>, cover: Cover, spans: Spans, rows: Rows)
+        requires book { mark.book ≡ self.old.book }
+        requires seen { IsPrefix at.now.log mark.log }
         requires cover { CoversView M.means at.now.log self.old.scan cover }
+        requires spans { AreSpans self.old.scan (drawn mark.log) rows spans }
         requires rows { rows ≡ view_rows M.means (after (record_of at.now.log)) self.old.scan }
         ensures { self.new ≡ record self.old { last = Some rows } }
     {
         self.last = Some(LastAnswer {
             root: at.root(),
             cover,
+            spans,
             rows,
         });
-        self.mark = at.mark();
+        self.mark = mark;
     }
 
     // Answers by the rows that were read there.
-    fn tell(&mut self, at: &Point<M>, cover: Cover, rows: Rows) -> Result<Polled, AllocError>
-        requires book { self.old.book ≡ at.now.book }
+    fn tell(
+        &mut self,
+        at: &Point<M>,
+        mark: Mark<M>,
+        cover: Cover,
+        spans: Spans,
+        rows: Rows,
+    ) -> Result<Polled, AllocError>
+        requires book { mark.book ≡ self.old.book }
+        requires seen { IsPrefix at.now.log mark.log }
         requires cover { CoversView M.means at.now.log self.old.scan cover }
+        requires spans { AreSpans self.old.scan (drawn mark.log) rows spans }
         requires rows { rows ≡ view_rows M.means (after (record_of at.now.log)) self.old.scan }
         ensures value { IfOk result (λ polled. polled ≡ poll_reply self.old.last rows) }
         ensures kept { IfOk result (λ polled. self.new ≡ watch_after self.old (Ok polled)) }
         ensures left { IfErr result (λ _. self.new ≡ self.old) }
     {
         if self.has_told(&rows) {
-            self.keep(at, cover, rows);
+            self.keep(at, mark, cover, spans, rows);
             return Ok(Polled::Unchanged);
         }
         let kept = rows.clone()?;
-        self.keep(at, cover, kept);
+        self.keep(at, mark, cover, spans, kept);
         Ok(Polled::New(rows))
     }
 
-    // Stays as it is, at a point where the rows are those that were told last.
-    fn stay(&mut self, at: &Point<M>, cover: Cover)
-        requires book { self.old.book ≡ at.now.book }
+    // Stays as it is, where the rows are those that were told last: so are their spans.
+    fn stay<S: Slots<M>>(&mut self, tx: &ReadTx<'_, M, S>, cover: Cover)
+        requires book { self.old.book ≡ (seen_by tx.now).book }
+        requires cover { CoversView M.means (seen_by tx.now).log self.old.scan cover }
+        requires rows { self.old.last ≡ Some (view_rows M.means (read_by tx.now) self.old.scan) }
+        ensures { self.new ≡ self.old }
+    {
+        let mark = tx.mark_with(&self.mark);
+        if let Some(told) = self.last.take() {
+            self.keep(tx.point(), mark, cover, told.spans, told.rows);
+        }
+    }
+
+    // Keeps the rows that were told last, with the spans that were found of them.
+    fn keep_told(&mut self, at: &Point<M>, mark: Mark<M>, cover: Cover, spans: Spans)
+        requires book { mark.book ≡ self.old.book }
+        requires seen { IsPrefix at.now.log mark.log }
         requires cover { CoversView M.means at.now.log self.old.scan cover }
+        requires spans { AreSpans self.old.scan (drawn mark.log)
+            (view_rows M.means (after (record_of at.now.log)) self.old.scan) spans }
         requires rows { self.old.last ≡ Some (view_rows M.means (after (record_of at.now.log)) self.old.scan) }
         ensures { self.new ≡ self.old }
     {
         if let Some(told) = self.last.take() {
-            self.keep(at, cover, told.rows);
+            self.keep(at, mark, cover, spans, told.rows);
         }
     }
 
-    // The rows, if they are others than those that were told last, or the first ones.
-    fn others<S: Slots<M>>(
+    // The rows, if they are others than those that were told last, or the first ones. Each is read.
+    fn read_all<S: Slots<M>>(
         &self,
         tx: &ReadTx<'_, M, S>,
     ) -> Result<Option<Vec<(Text, Json)>>, Refusal>
@@ -277,6 +335,43 @@ impl<M: Means> Watch<M> {
         others_than::<Brand, M, S>(told.rows.as_slice(), tx, &self.scan)
     }
 
+    // The same of a scan with no limit. Chunks that were met when the rows were told are not read.
+    fn read_new<S: Slots<M>>(&self, tx: &ReadTx<'_, M, S>) -> Result<Found<M>, Refusal>
+        requires { self.now.scan.limit ≡ None }
+        ensures found { IfOk result (IsFound M.means (seen_by tx.now) self.now) }
+        ensures err { IfErr result (IsMissedOrDry S.reused) }
+    {
+        let Some(told) = &self.last else {
+            return read_first(tx, &self.scan);
+        };
+        let mark = tx.mark_with(&self.mark);
+        let Rescanned { others, spans } =
+            tx.scan_again(&self.scan, told.rows.as_slice(), &told.spans)?;
+        Ok(Found {
+            others,
+            spans,
+            mark,
+        })
+    }
+
+    // What a poll finds. Of a scan with a limit no spans are kept.
+    fn others<S: Slots<M>>(&self, tx: &ReadTx<'_, M, S>) -> Result<Found<M>, Refusal>
+        requires { self.now.book ≡ (seen_by tx.now).book }
+        ensures found { IfOk result (IsFound M.means (seen_by tx.now) self.now) }
+        ensures err { IfErr result (IsMissedOrDry S.reused) }
+    {
+        if self.scan.limit.is_none() {
+            return self.read_new(tx);
+        }
+        let others = self.read_all(tx)?;
+        let spans = Spans::none(tx.alloc())?;
+        Ok(Found {
+            others,
+            spans,
+            mark: tx.point().mark(),
+        })
+    }
+
     // Answers by the rows at a reader's point, which lie in these chunks.
     fn compare<S: Slots<M>>(
         &mut self,
@@ -291,11 +386,17 @@ impl<M: Means> Watch<M> {
         ensures err { IfErr result (IsMissedOrDry S.reused) }
     {
         let at = tx.point();
-        let Some(rows) = self.others(tx)? else {
-            self.stay(at, cover);
+        let Found {
+            others,
+            spans,
+            mark,
+        } = self.others(tx)?;
+        let Some(rows) = others else {
+            self.keep_told(at, mark, cover, spans);
             return Ok(Polled::Unchanged);
         };
-        Ok(self.tell(at, cover, Rows::new(tx.alloc(), rows)?)?)
+        let rows = Rows::new(tx.alloc(), rows)?;
+        Ok(self.tell(at, mark, cover, spans, rows)?)
     }
 
     // Asks a reader. Where it is refused the watch is as it was.
@@ -312,7 +413,7 @@ impl<M: Means> Watch<M> {
         }
         let cover = tx.cover(&self.scan)?;
         if self.has_covered(at, &cover) {
-            self.stay(at, cover);
+            self.stay(tx, cover);
             return Ok(Polled::Unchanged);
         }
         self.compare(tx, cover)

@@ -4,6 +4,7 @@ mod claims;
 mod desks;
 mod groups;
 mod maps;
+mod rescans;
 mod stores;
 mod texts;
 mod trees;

@@ -3,3 +3,4 @@ mod ReadLemmas
 mod KnownLemmas
 mod StagedLemmas
 pub mod RowLemmas
+pub mod SpanLemmas

@@ -1,5 +1,5 @@
 //! Rows that are taken beside others, and copied from the first one on that differs.
-ghost use Rattle.std.specs.Prelude.{◌≡◌, ◌<◌, ◌+◌, ◌++◌, ◌∷◌, [], length, take, IfNone, IfOk, IfSome, IsTrue, OnErr};
+ghost use Rattle.std.specs.Prelude.{◌≡◌, ◌<◌, ◌+◌, ◌++◌, ◌∷◌, [], length, take, drop, true, false, IfNone, IfOk, IfSome, IsTrue, OnErr};
 ghost use Rattle.std.specs.Prelude.{OnOk};
 ghost use Rattle.group_history.specs.Rows.{Rows};
 ghost use Rattle.transactions.specs.Taking.{taken_rows};
@@ -67,6 +67,56 @@ impl<'a, B: PreviousRows> RowDiff<'a, B> {
                 return Ok(());
             }
         }
+    }
+
+    // The rows of before.
+    pub(crate) fn before(&self) -> &'a [(Text, Json)]
+        ensures { result.now ≡ B.rows }
+    {
+        self.before
+    }
+
+    // How many rows were taken.
+    pub(crate) fn count(&self) -> usize
+        ensures { result ≡ length (taken_rows B.rows self.now.taken) }
+    {
+        match &self.taken {
+            CollectedRows::First(count) => (*count).min(self.before.len()),
+            CollectedRows::Own(rows) => rows.len(),
+        }
+    }
+
+    // Takes so many of the rows of before, where all that were taken are those in front of them.
+    fn pass_over(&mut self, from: usize, count: usize) -> bool
+        ensures more { result ≡ true → taken_rows B.rows self.new.taken
+            ≡ taken_rows B.rows self.old.taken ++ take count (drop from B.rows) }
+        ensures still { result ≡ false → taken_rows B.rows self.new.taken ≡ taken_rows B.rows self.old.taken }
+    {
+        match &mut self.taken {
+            CollectedRows::Own(_) => return false,
+            CollectedRows::First(taken) => {
+                if *taken != from || from > self.before.len() || count > self.before.len() - from {
+                    return false;
+                }
+                *taken = from + count;
+                return true;
+            }
+        }
+    }
+
+    // Takes so many of the rows of before, from a place on, or as many as there are.
+    pub(crate) fn take_again(&mut self, from: usize, count: usize) -> Result<(), AllocError>
+        ensures { OnOk result (taken_rows B.rows self.new.taken
+            ≡ taken_rows B.rows self.old.taken ++ take count (drop from B.rows)) }
+    {
+        if self.pass_over(from, count) {
+            return Ok(());
+        }
+        let before = self.before;
+        for row in first(behind(before, from), count) {
+            self.add(&row.0, &row.1)?;
+        }
+        Ok(())
     }
 
     /// The rows that were taken, if they aren't those of before.
@@ -137,6 +187,16 @@ fn first(rows: &[(Text, Json)], count: usize) -> &[(Text, Json)]
         return &rows[..count];
     }
     rows
+}
+
+// The rows behind so many, or none.
+fn behind(rows: &[(Text, Json)], count: usize) -> &[(Text, Json)]
+    ensures { result.now ≡ drop count rows.now }
+{
+    if count < rows.len() {
+        return &rows[count..];
+    }
+    &[]
 }
 
 // So many of the first rows, and one more.

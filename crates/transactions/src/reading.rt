@@ -8,14 +8,18 @@ ghost use mathlib.Core.List.{IsPrefix};
 ghost use Rattle.std.specs.FinMap as finite;
 ghost use Rattle.group_history.specs.Refs.{stamp_of};
 ghost use Rattle.group_history.specs.Scans.{rows_of};
-ghost use Rattle.group_history.specs.Spelling.{Version, map_at, version_at};
+ghost use Rattle.group_history.specs.Spelling.{Contents, Version, map_at, version_at};
 ghost use Rattle.map_chunks.specs.Covers.{Covers};
 ghost use Rattle.map_chunks.specs.Places.{Grows};
 ghost use Rattle.map_chunks.specs.Scanning.{scanned};
 ghost use Rattle.map_chunks.specs.Sinks.{HasMore, HasBegun};
 ghost use Rattle.group_history.specs.declared.mutators.Stop.TheVariants.{NoMemory};
 ghost use Rattle.transactions.specs.Reads.{pulled_version};
+ghost use Rattle.transactions.specs.Rescans.{IsRescanned};
+ghost use Rattle.transactions.specs.Spans.{AreSpans};
 
+use crate::again::{Rescanned, scan_again};
+use crate::spans::Spans;
 use commit_graph::{Nodes, closed_of, cookie_of, read_root, top_of, walk};
 use group_history::{Cookie, Json, Mutation, Ref, Scan, Stop, Text};
 use map_chunks::covers::{Cover, cover_placed};
@@ -149,6 +153,24 @@ impl<N: Nodes> ReadTx<N> {
         ensures stopped { IfErr result (λ stop. (stop ≡ NoMemory) ⊎ N.stops stop) }
     {
         cover_placed(self.alloc, &mut self.nodes, self.root, scan)
+    }
+
+    /// Takes the rows that the scan asks for, its limit aside, beside those of before, of which these spans are known.
+    /// Only chunks are read that have no span.
+    pub fn scan_again(
+        &mut self,
+        scan: &Scan,
+        before: &[(Text, Json)],
+        known: &Spans,
+    ) -> Result<Rescanned, Stop>
+        ensures found { IfOk result (λ found. (all : Contents) → IsPrefix self.old.contents all
+            → AreSpans scan.now all before.now known.now → IsRescanned scan.now all before.now
+            (scanned scan.now (finite.entries self.old.version.read)) found) }
+        ensures same { self.new.version ≡ self.old.version }
+        ensures grown { IsPrefix self.old.contents self.new.contents }
+        ensures stopped { IfErr result (λ stop. (stop ≡ NoMemory) ⊎ N.stops stop) }
+    {
+        scan_again(self.alloc, &mut self.nodes, self.root, scan, before, known)
     }
 
     /// Whether no key is there. Takes no memory.

@@ -43,9 +43,9 @@ fn numbered(alloc: Global, count: u32) -> Result<String, Refusal> {
 
 /// Counts how often a node is shown.
 #[derive(Drop)]
-struct Counted<'a> {
-    shelf: Shelf<'a>,
-    shown: u64,
+pub(super) struct Counted<'a> {
+    pub(super) shelf: Shelf<'a>,
+    pub(super) shown: u64,
 }
 
 impl<'a> Chunks for Counted<'a> {
@@ -83,7 +83,7 @@ impl<'a> Nodes for Counted<'a> {
 }
 
 /// Adds the nodes of a pull over this head, with these mutations pending, and answers the new head.
-fn add_rebased(
+pub(super) fn add_rebased(
     alloc: Global,
     nodes: &mut VecNodes,
     head: Ref,
@@ -155,7 +155,7 @@ fn opened(alloc: Global) -> Result<(VecNodes, Ref), Refusal>
 }
 
 /// What the body of a response tells.
-fn pulled(alloc: Global, body: &str) -> Result<PullOk, Refusal> {
+pub(super) fn pulled(alloc: Global, body: &str) -> Result<PullOk, Refusal> {
     match read_response(alloc, body.as_bytes())? {
         Response::Ok(pull) => Ok(pull),
         _ => Err(Refusal::BadShape),
@@ -163,7 +163,7 @@ fn pulled(alloc: Global, body: &str) -> Result<PullOk, Refusal> {
 }
 
 /// The nodes and the head of a group that pulled so many keys, with these mutations pending.
-fn with_keys(alloc: Global, pending: &[Mutation], count: u32) -> Result<(VecNodes, Ref), Refusal>
+pub(super) fn with_keys(alloc: Global, pending: &[Mutation], count: u32) -> Result<(VecNodes, Ref), Refusal>
     ensures { IfOk result (λ made. IsSome (version_at (map content_of made.0) (stamp_of made.1))) }
 {
     let body = numbered(alloc, count)?;

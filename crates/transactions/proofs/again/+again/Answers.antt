@@ -1,0 +1,245 @@
+use Rattle.std.proofs.Common.{[], ◌++◌, inl, inr, true, None, Some, ◌≡◌, ◌∙◌, ℕ, List, refl, ap, sym, subst, arith, length, slice_get}
+use Rattle.std.proofs.Common.{slice_index_or}
+use Rattle.std.proofs.lemmas.List.{append-nil}
+use Rattle.std.proofs.lemmas.List.Elements.{Contains-get_or}
+use Rattle.group_history.specs.declared.nodes.Chunk.{Chunk}
+use Rattle.group_history.specs.declared.refs.Ref.{Ref}
+use Rattle.group_history.specs.Naming.{chunk_children, chunk_content}
+use Rattle.group_history.specs.Refs.{stamp_of}
+use Rattle.group_history.specs.Rows.{Rows, paired, keys_of, values_of}
+use Rattle.group_history.proofs.Lists.{prefix_trans}
+use Rattle.group_history.proofs.Pairs.{paired-parts}
+use Rattle.map_chunks.specs.Places.{AreAll}
+use Rattle.map_chunks.specs.Scanning.{scanned, is_over}
+use Rattle.map_chunks.specs.Shown.{IsTree, chunk_rows, rows_or}
+use Rattle.map_chunks.specs.Sinks.{HasMore}
+use Rattle.map_chunks.proofs.AnswerLemmas.{on_ok}
+use Rattle.map_chunks.proofs.CoverLemmas.{below}
+use Rattle.map_chunks.proofs.KeptLemmas.{grows_on}
+use Rattle.map_chunks.proofs.OpenLemmas.{known}
+use Rattle.map_chunks.proofs.ScanLemmas.{chunk_rows-kept, got_any, pairs_all, pairs_begun, pairs_child, pairs_over}
+use Rattle.map_chunks.proofs.ScanLemmas.{ref_rows, ref_turn, refs_known}
+use Rattle.map_chunks.proofs.SearchLemmas.{length-keys_of, length-values_of}
+use Rattle.map_chunks.proofs.WayLemmas.{leaf_is, rows_later}
+use Rattle.transactions.specs.Rescans.{Found, HasFound}
+use Rattle.transactions.proofs.SpanLemmas.{found_begun, found_ended, kept_more, leaf_more}
+use Rattle.transactions.proofs.again.+again.Goals as goal
+
+pub take_child-returns-in-Some-clause-more : goal.take_child-returns-in-Some-clause-more
+take_child-returns-in-Some-clause-more g t c before all pre up spans tree =
+    let scan = c.args.scan.now in let told = g.B.PreviousRows.rows in let kept = c.in-Some.kept in
+    let k = stamp_of c.args.at in let n = known (chunk_rows before k) tree in
+    let stamp = c.in-Some.ensures.span.1 ∙ ap (λ (w : ℕ). Some w) c.stamp.ensures.stamp in
+    subst (λ w. HasMore (HasFound scan all) c.args.again.now c.keep.new.self (scanned scan (rows_or w))) (sym n.is)
+    (subst (λ (f : Found). HasMore (HasFound scan all) f c.keep.new.self (scanned scan n.rows)) c.find.ensures.same
+    (kept_more scan all told c.args.known.now kept.all.now kept.span k n.rows c.find.new.self c.keep.new.self spans
+    c.in-Some.ensures.span.0 stamp c.in-Some.ensures.all (chunk_rows-kept before all k n.rows up n.is)
+    c.in_ok-keep.ensures.rows c.in_ok-keep.ensures.spans))
+
+pub take_child-returns-clause-more : goal.take_child-returns-clause-more
+take_child-returns-clause-more g t c = on_ok c.take_shown.result c.take_shown.ensures.more
+    (λ more before all pre up spans tree.
+    subst (λ (f : Found). HasMore (HasFound c.args.scan.now all) f c.take_shown.new.again
+    (scanned c.args.scan.now (rows_or (chunk_rows before (stamp_of c.args.at))))) c.find.ensures.same
+    (more before all pre up spans tree))
+
+pub take_children-loop-place-init : goal.take_children-loop-place-init
+take_children-loop-place-init g t c =
+    let r = c.requires.1.1.1.1.1.1 in
+    record {
+      grown = (([], append-nil (g.C.Chunks.contents c.args.chunks.now)), λ at h. h);
+      more = λ before all pre up spans tree.
+          let n = refs_known before c.args.below.firsts.now c.args.below.children.now tree in
+          pairs_begun (ref_rows before) c.args.below.firsts.now c.args.below.children.now c.place_of-place.result n.rows
+          c.args.scan.now c.args.low.now (HasFound c.args.scan.now all) c.args.again.now None r.1.0 n.is n.order
+          r.1.1.1 c.place_of-place.ensures;
+    }
+
+pub take_children-returns-then-is_over-clause-more : goal.take_children-returns-then-is_over-clause-more
+take_children-returns-then-is_over-clause-more g t c before all pre up spans tree =
+    let scan = c.args.scan.now in
+    let old = c.args.again.now in
+    let new = c.loop-place.again in
+    let n = refs_known before c.args.below.firsts.now c.args.below.children.now tree in
+    let took = pairs_over (ref_rows before) c.args.below.firsts.now c.args.below.children.now c.loop-place.place n.rows
+    scan (HasFound scan all) old new None None c.index-below-place.result c.requires.1.1.1.1.1.1.1.0 n.is n.order
+    c.loop-place-test.true c.index-below-place.is (c.loop-place.invariant.more before all pre up spans tree)
+    (subst (λ w. is_over scan None w ≡ true) (sym c.index-below-place.is)
+    (sym c.is_over.ensures ∙ c.if-is_over.true)) in
+    subst (λ w. HasMore (HasFound scan all) old new (scanned scan (rows_or w))) (sym n.is) took.rows
+
+pub take_children-take_child-requires : goal.take_children-take_child-requires
+take_children-take_child-requires g t c κs ws =
+    let p = g.C.Chunks.contents c.args.chunks.now in
+    let r = c.requires.1.1.1.1.1.1 in
+    let n = refs_known p c.args.below.firsts.now c.args.below.children.now r.1.1.0 in
+    let at = slice_index_or c.args.below.children.now c.loop-place.place (record { bits = 0 }) in
+    let u = ref_turn p (g.C.Chunks.contents c.loop-place.chunks) c.args.below.firsts.now c.args.below.children.now
+    c.loop-place.place at c.loop-place.invariant.grown.0 r.1.0 n c.loop-place-test.true
+    (got_any c.args.below.children.now c.loop-place.place (record { bits = 0 }) at
+    (omega (arith, r.1.0, c.loop-place-test.true))) in
+    let place = c.loop-place.invariant.grown.1 at
+    (c.requires.1.1.1.1.1.0 at (Contains-get_or c.args.below.children.now c.loop-place.place (record { bits = 0 })
+    (omega (arith, r.1.0, c.loop-place-test.true)))) in
+    (omega (arith, u.low, c.requires.1.0), (ws.0, (ws.1.0, (ws.1.1, (place, (u.tree, r.1.1.1))))))
+
+pub take_children-loop-place-preserved : goal.take_children-loop-place-preserved
+take_children-loop-place-preserved g t c =
+    let p = g.C.Chunks.contents c.args.chunks.now in
+    let mid = g.C.Chunks.contents c.loop-place.chunks in
+    let scan = c.args.scan.now in
+    let r = c.requires.1.1.1.1.1.1 in
+    let at = slice_index_or c.args.below.children.now c.loop-place.place (record { bits = 0 }) in
+    let grown = c.loop-place.invariant.grown in
+    record {
+      grown = grows_on g.C.Chunks.contents g.C.Chunks.places c.args.chunks.now c.loop-place.chunks
+          c.take_child.new.chunks grown c.take_child.ensures.grown;
+      more = λ before all pre up spans tree.
+          let n = refs_known before c.args.below.firsts.now c.args.below.children.now tree in
+          let u = ref_turn before before c.args.below.firsts.now c.args.below.children.now c.loop-place.place at
+          ([], append-nil before) r.1.0 n c.loop-place-test.true
+          (got_any c.args.below.children.now c.loop-place.place (record { bits = 0 }) at
+          (omega (arith, r.1.0, c.loop-place-test.true))) in
+          pairs_child (ref_rows before) c.args.below.firsts.now c.args.below.children.now c.loop-place.place n.rows scan
+          (HasFound scan all) c.args.again.now c.loop-place.again c.take_child.new.again None None None u.turn
+          (c.loop-place.invariant.more before all pre up spans tree)
+          (record {
+            rows = subst (λ w. HasMore (HasFound scan all) c.loop-place.again c.take_child.new.again
+                (scanned scan (rows_or w))) u.rows_are
+                (c.in_ok-take_child.ensures.more before all (prefix_trans before p mid pre grown.0) up spans u.tree);
+            room = refl;
+          });
+    }
+
+pub take_children-returns-clause-more : goal.take_children-returns-clause-more
+take_children-returns-clause-more g t c before all pre up spans tree =
+    let scan = c.args.scan.now in
+    let n = refs_known before c.args.below.firsts.now c.args.below.children.now tree in
+    subst (λ w. HasMore (HasFound scan all) c.args.again.now c.loop-place.again (scanned scan w))
+    (pairs_all (ref_rows before) c.args.below.firsts.now c.args.below.children.now c.loop-place.place n.rows
+    c.requires.1.1.1.1.1.1.1.0 n.is (omega (arith, c.place_of-place.ensures.0)) ∙ ap rows_or (sym n.is))
+    (c.loop-place.invariant.more before all pre up spans tree).rows
+
+pub take_chunk-returns-in-Leaf-clause-more : goal.take_chunk-returns-in-Leaf-clause-more
+take_chunk-returns-in-Leaf-clause-more g t c before all pre up spans tree rows h =
+    let now = g.C.Chunks.contents c.args.chunks.now in
+    let scan = c.args.scan.now in
+    let k = stamp_of c.args.at in
+    let lies = subst (λ (ch : Chunk Ref). slice_get now k ≡ Some (chunk_content ch)) c.in-Leaf.is
+    c.requires.1.1.1.1.1.0.1 in
+    let leaf = leaf_is now k c.in-Leaf.leaf c.requires.1.1.1.1.1.1.0 lies in
+    let same : rows_or (chunk_rows before k) ≡ c.in-Leaf.leaf = ap rows_or
+    (sym (rows_later before now k pre tree) ∙ leaf.0) in
+    leaf_more scan all c.in-Leaf.leaf (rows_or (chunk_rows before k)) c.args.again.now c.take_leaf.new.self same
+    c.in_ok-take_leaf-in-Leaf.ensures.rows c.in_ok-take_leaf-in-Leaf.ensures.spans rows h
+
+pub take_chunk-take_children-requires : goal.take_chunk-take_children-requires
+take_chunk-take_children-requires g t c κs ws =
+    let p = g.C.Chunks.contents c.args.chunks.now in
+    let shown = c.requires.1.1.1.1.1.0 in
+    let tree = c.requires.1.1.1.1.1.1.0 in
+    let kids = c.in-Inner.inner in
+    let keys : c.as_slice.result.now
+    ≡ keys_of kids = c.as_slice.ensures.keys ∙ c.deref.ensures ∙ c.firsts.ensures.keys in
+    let children : c.children.result.now ≡ values_of kids = c.children.ensures in
+    let pairs : paired c.as_slice.result.now c.children.result.now
+    ≡ kids = ap (λ w. paired w c.children.result.now) keys ∙ ap
+    (λ w. paired (keys_of kids) w) children ∙ paired-parts kids in
+    let b = below p p (stamp_of c.args.at) c.args.chunk.now kids _ ([], append-nil p) tree shown.1 c.in-Inner.is
+    pairs in (
+      omega (arith, b.low, c.requires.1.0),
+      (
+        ws.0,
+        (
+          ws.1.0,
+          (
+            ws.1.1,
+            (
+              subst (AreAll (g.C.Chunks.places c.args.chunks.now)) (sym children)
+                  (subst (λ (ch : Chunk Ref). AreAll (g.C.Chunks.places c.args.chunks.now) (chunk_children ch))
+                  c.in-Inner.is shown.0),
+              (
+                c.as_slice.ensures.order.1,
+                (
+                  omega (arith, ap length keys, ap length children, length-keys_of kids, length-values_of kids),
+                  (
+                    subst IsTree (sym b.rows) tree,
+                    c.requires.1.1.1.1.1.1.1,
+                  ),
+                ),
+              ),
+            ),
+          ),
+        ),
+      ),
+    )
+
+pub take_chunk-returns-in-Inner-clause-more : goal.take_chunk-returns-in-Inner-clause-more
+take_chunk-returns-in-Inner-clause-more g t c =
+    let p = g.C.Chunks.contents c.args.chunks.now in
+    let scan = c.args.scan.now in
+    let old = c.args.again.now in
+    let new = c.take_children.new.again in
+    let kids = c.in-Inner.inner in
+    let keys : c.as_slice.result.now
+    ≡ keys_of kids = c.as_slice.ensures.keys ∙ c.deref.ensures ∙ c.firsts.ensures.keys in
+    let children : c.children.result.now ≡ values_of kids = c.children.ensures in
+    let pairs : paired c.as_slice.result.now c.children.result.now
+    ≡ kids = ap (λ w. paired w c.children.result.now) keys ∙ ap
+    (λ w. paired (keys_of kids) w) children ∙ paired-parts kids in
+    on_ok c.take_children.result c.take_children.ensures.more (λ more before all pre up spans tree.
+    let b = below before p (stamp_of c.args.at) c.args.chunk.now kids _ pre tree c.requires.1.1.1.1.1.0.1 c.in-Inner.is
+    pairs in
+    subst (λ w. HasMore (HasFound scan all) old new (scanned scan (rows_or w))) b.rows
+    (more before all pre up spans (subst IsTree (sym b.rows) tree)))
+
+pub take_shown-take_chunk-answer-requires : goal.take_shown-take_chunk-answer-requires
+take_shown-take_chunk-answer-requires g t c κs ws =
+    let p = g.C.Chunks.contents c.args.chunks.now in
+    let q = g.C.Chunks.contents c.show.new.self in
+    let k = stamp_of c.args.at in
+    let tree = c.requires.1.1.1.1.1.1.0 in (
+      omega (arith, c.requires.1.0),
+      (
+        ws.0,
+        (
+          ws.1.0,
+          (
+            ws.1.1,
+            (
+              (
+                subst (λ (ch : Chunk Ref). AreAll (g.C.Chunks.places c.show.new.self) (chunk_children ch))
+                    (sym c.chunk.ensures) c.in_ok-held.ensures.children,
+                subst (λ (ch : Chunk Ref). slice_get q k ≡ Some (chunk_content ch)) (sym c.chunk.ensures)
+                    c.in_ok-held.ensures.content,
+              ),
+              (
+                subst IsTree (sym (rows_later p q k c.show.ensures.grown.0 tree)) tree,
+                c.requires.1.1.1.1.1.1.1,
+              ),
+            ),
+          ),
+        ),
+      ),
+    )
+
+pub take_shown-returns-clause-more : goal.take_shown-returns-clause-more
+take_shown-returns-clause-more g t c before all pre up spans tree rows h =
+    let p = g.C.Chunks.contents c.args.chunks.now in
+    let q = g.C.Chunks.contents c.show.new.self in
+    let scan = c.args.scan.now in
+    let k = stamp_of c.args.at in
+    let n = known (chunk_rows before k) tree in
+    let begun = found_begun scan all c.args.again.now c.begin.new.self rows c.in_ok-begun.ensures.rows
+    c.in_ok-begun.ensures.spans h in
+    let more = c.in_ok-answer.ensures.more before all (prefix_trans before p q pre c.show.ensures.grown.0) up spans tree
+    rows begun in
+    let here : Rows = n.rows in
+    let mid = subst (λ w. HasFound scan all c.take_chunk-answer.new.again (rows ++ scanned scan (rows_or w))) n.is more in
+    subst (λ w. HasFound scan all c.end.new.self (rows ++ scanned scan (rows_or w))) (sym n.is)
+    (found_ended scan all k c.in_ok-begun.begun.from here rows c.take_chunk-answer.new.again c.end.new.self
+    (chunk_rows-kept before all k here up n.is) (c.in_ok-begun.ensures.from ∙ ap length h.taken) c.end.ensures.rows
+    (λ s m. elim (c.end.ensures.spans s m) [
+      | inl x ↦ inl x
+      | inr y ↦ inr (y.0 ∙ ap (λ (w : ℕ). Some w) c.stamp.ensures.stamp, y.1, y.2)
+    ]) mid)

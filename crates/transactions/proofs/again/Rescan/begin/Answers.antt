@@ -1,0 +1,13 @@
+use Rattle.std.proofs.Common.{inl, inr, ap, subst, sym}
+use Rattle.std.proofs.lemmas.List.Elements.{Contains-push_cases}
+use Rattle.std.specs.List.{Contains}
+use Rattle.transactions.specs.Rescans.{Found}
+use Rattle.transactions.specs.declared.spans.Span.{Span}
+use Rattle.transactions.proofs.again.Rescan.begin.Goals as goal
+
+pub returns-clause-spans : goal.returns-clause-spans
+returns-clause-spans g c s h =
+    elim (Contains-push_cases c.self.inside.spans.items _ s (subst (λ xs. Contains xs s) c.in_ok-push.ensures.items h)) [
+      | inl p ↦ inl (subst (λ (f : Found). Contains f.spans s) c.self.view_is p)
+      | inr e ↦ inr (ap (λ (w : Span). w.stamp) (sym e))
+    ]

@@ -1,0 +1,18 @@
+use Rattle.std.proofs.Common.{◌-◌, ℕ, inl, inr, length, ap, subst, sym, ◌∙◌}
+use Rattle.std.specs.List.{Contains}
+use Rattle.transactions.specs.Rescans.{Found}
+use Rattle.transactions.specs.declared.spans.Span.{Span}
+use Rattle.transactions.proofs.SpanLemmas.{set_cases}
+use Rattle.transactions.proofs.again.Rescan.end.Goals as goal
+
+pub returns-then-begun-len-clause-spans : goal.returns-then-begun-len-clause-spans
+returns-then-begun-len-clause-spans g c s h = elim (set_cases c.self.inside.spans.items c.args.begun.place _ s h) [
+  | inl p ↦ inl (subst (λ (f : Found). Contains f.spans s) c.self.view_is p)
+  | inr e ↦ inr (
+    ap (λ (w : Span). w.stamp) (sym e),
+    ap (λ (w : Span). w.from) (sym e),
+    ap (λ (w : Span). w.count) (sym e) ∙ c.saturating_sub-count.ensures
+        ∙ ap (λ (n : ℕ). n - c.args.begun.from) c.count.ensures
+        ∙ ap (λ (f : Found). length f.rows - c.args.begun.from) c.self.view_is,
+  )
+]
