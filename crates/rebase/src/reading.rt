@@ -15,7 +15,7 @@ ghost use Rattle.commit_graph.specs.Seats.{IsReading};
 ghost use Rattle.group_steps.specs.Missing.{IsStoreRefusal, IsMissedOrDry};
 ghost use Rattle.transactions.specs.Reads.{pulled_version};
 ghost use Rattle.rebase.specs.Clients.{Stays};
-ghost use Rattle.rebase.specs.Inside.Watching.{CoversView};
+ghost use Rattle.rebase.specs.Inside.Watching.{CoversView, IsFoundAgain};
 
 use crate::client::Client;
 use chunk_slots::Slots;
@@ -232,13 +232,21 @@ impl<'a, M: Means, S: Slots<M>> ReadTx<'a, M, S> {
         scan: &Scan,
         before: &[(Text, Json)],
         known: &Spans,
-    ) -> Result<Rescanned, Refusal> {
+    ) -> Result<Rescanned, Refusal>
+        ensures found { IfOk result (IsFoundAgain M.means (seen_by self.now).log scan.now before.now known.now) }
+        ensures err { IfErr result (IsMissedOrDry S.reused) }
+    {
         let mut tx = self.commit()?;
         Ok(tx.scan_again(scan, before, known)?)
     }
 
     // What has been seen there, and what the mark has seen.
-    pub(crate) fn mark_with(&self, other: &Mark<M>) -> Mark<M> {
+    pub(crate) fn mark_with(&self, other: &Mark<M>) -> Mark<M>
+        requires { other.now.book ≡ (seen_by self.now).book }
+        ensures book { result.book ≡ other.now.book }
+        ensures own { IsPrefix (seen_by self.now).log result.log }
+        ensures other { IsPrefix other.now.log result.log }
+    {
         let mut mark = self.at.mark();
         let client = &*self.client;
         let group: &SharedGroup<M, S> = &client.group;

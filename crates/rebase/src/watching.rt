@@ -3,19 +3,22 @@
 //! A watch keeps the rows that it answered last, the root of the map that they were read from, and the few topmost
 //! chunks in which the rows of its scan lie there (`Cover`). What a stamp spells never changes. So at a commit of the
 //! same root the rows are the same; and where other keys changed the root is another, but the chunks are the same, and
-//! so the rows are. In both cases none is read. The type keeps that the rows are those of the root and lie in the
-//! chunks (`AreRead`), in what was seen of the book when they were read; of that and what a client has seen one begins
-//! the other.
+//! so the rows are. In both cases none is read. Where others are there it keeps which rows are which chunk's (`Spans`),
+//! and a poll reads only chunks that the last one didn't meet; but each, where the scan has a limit. The type keeps that
+//! the rows are those of the root, lie in the chunks and have the spans (`AreRead`), in what was seen of the book when
+//! they were read; of that and what a client has seen one begins the other, and the watch keeps what both have seen.
 ghost use Rattle.std.specs.Option.{option_copied};
-ghost use Rattle.std.specs.Prelude.{◌≡◌, ◌⊎◌, T, Some, None, Ok, true, IfOk, IfErr, IfNone, IfSome};
+ghost use Rattle.std.specs.Prelude.{◌≡◌, ◌⊎◌, T, Some, None, Ok, true, IfOk, IfErr, IfNone, IfSome, IsSome};
 ghost use Rattle.std.specs.Cmp as laws;
 ghost use mathlib.Core.List.{IsPrefix};
 ghost use Rattle.group_history.specs.Queries.{view_rows};
 ghost use Rattle.group_history.specs.Record.{after};
 ghost use Rattle.group_history.specs.Rows.{keys_of, rises};
-ghost use Rattle.head_word.specs.Books.{record_of};
+ghost use Rattle.head_word.specs.Books.{drawn, record_of};
+ghost use Rattle.head_word.specs.Marks.{known};
 ghost use Rattle.answered.specs.Answered.{IsLinearized, no_change};
 ghost use Rattle.group_steps.specs.Missing.{IsMissedOrDry};
+ghost use Rattle.transactions.specs.Spans.{AreSpans};
 ghost use Rattle.rebase.specs.Clients.{Stays};
 ghost use Rattle.rebase.specs.Inside.Watching.{CoversView};
 ghost use Rattle.rebase.specs.Readers.{read_by, seen_by};
@@ -95,7 +98,8 @@ pub enum Polled {
     Unchanged,
 }
 
-/// The rows that were answered last, the root of the map that they were read from, and the chunks in which they lie.
+/// The rows that were answered last, the root of the map that they were read from, the chunks in which they lie, and which
+/// of them are which chunk's.
 #[derive(Drop)]
 pub(crate) struct LastAnswer {
     root: Ref,
@@ -149,7 +153,16 @@ fn others_than<B: PreviousRows, M: Means, S: Slots<M>>(
 fn read_first<M: Means, S: Slots<M>>(
     tx: &ReadTx<'_, M, S>,
     scan: &Scan,
-) -> Result<Found<M>, Refusal> {
+) -> Result<Found<M>, Refusal>
+    requires { scan.now.limit ≡ None }
+    ensures rows { IfOk result (λ found. IfSome found.others
+        (λ rows. rows.items ≡ view_rows M.means (read_by tx.now) scan.now)) }
+    ensures first { IfOk result (λ found. IsSome found.others) }
+    ensures spans { IfOk result (λ found. AreSpans scan.now (drawn found.mark.log)
+        (view_rows M.means (read_by tx.now) scan.now) found.spans) }
+    ensures mark { IfOk result (λ found. found.mark ≡ known (seen_by tx.now).book (seen_by tx.now).log None) }
+    ensures err { IfErr result (IsMissedOrDry S.reused) }
+{
     let none = Spans::none(tx.alloc())?;
     let before = Vec::new(tx.alloc());
     let Rescanned { others, spans } = tx.scan_again(scan, before.as_slice(), &none)?;
@@ -337,16 +350,27 @@ impl<M: Means> Watch<M> {
 
     // The same of a scan with no limit. Chunks that were met when the rows were told are not read.
     fn read_new<S: Slots<M>>(&self, tx: &ReadTx<'_, M, S>) -> Result<Found<M>, Refusal>
-        requires { self.now.scan.limit ≡ None }
-        ensures found { IfOk result (IsFound M.means (seen_by tx.now) self.now) }
+        requires book { self.now.book ≡ (seen_by tx.now).book }
+        requires limit { self.now.scan.limit ≡ None }
+        ensures some { IfOk result (λ found. IfSome found.others
+            (λ rows. rows.items ≡ view_rows M.means (read_by tx.now) self.now.scan)) }
+        ensures same { IfOk result (λ found. IfNone found.others
+            (self.now.last ≡ Some (view_rows M.means (read_by tx.now) self.now.scan))) }
+        ensures spans { IfOk result (λ found. AreSpans self.now.scan (drawn found.mark.log)
+            (view_rows M.means (read_by tx.now) self.now.scan) found.spans) }
+        ensures book { IfOk result (λ found. found.mark.book ≡ self.now.book) }
+        ensures seen { IfOk result (λ found. IsPrefix (seen_by tx.now).log found.mark.log) }
         ensures err { IfErr result (IsMissedOrDry S.reused) }
     {
         let Some(told) = &self.last else {
             return read_first(tx, &self.scan);
         };
         let mark = tx.mark_with(&self.mark);
-        let Rescanned { others, spans } =
-            tx.scan_again(&self.scan, told.rows.as_slice(), &told.spans)?;
+        let Rescanned { others, spans } = tx.scan_again(
+            &self.scan,
+            told.rows.as_slice(),
+            &told.spans,
+        )?;
         Ok(Found {
             others,
             spans,
@@ -357,7 +381,14 @@ impl<M: Means> Watch<M> {
     // What a poll finds. Of a scan with a limit no spans are kept.
     fn others<S: Slots<M>>(&self, tx: &ReadTx<'_, M, S>) -> Result<Found<M>, Refusal>
         requires { self.now.book ≡ (seen_by tx.now).book }
-        ensures found { IfOk result (IsFound M.means (seen_by tx.now) self.now) }
+        ensures some { IfOk result (λ found. IfSome found.others
+            (λ rows. rows.items ≡ view_rows M.means (read_by tx.now) self.now.scan)) }
+        ensures same { IfOk result (λ found. IfNone found.others
+            (self.now.last ≡ Some (view_rows M.means (read_by tx.now) self.now.scan))) }
+        ensures spans { IfOk result (λ found. AreSpans self.now.scan (drawn found.mark.log)
+            (view_rows M.means (read_by tx.now) self.now.scan) found.spans) }
+        ensures book { IfOk result (λ found. found.mark.book ≡ self.now.book) }
+        ensures seen { IfOk result (λ found. IsPrefix (seen_by tx.now).log found.mark.log) }
         ensures err { IfErr result (IsMissedOrDry S.reused) }
     {
         if self.scan.limit.is_none() {

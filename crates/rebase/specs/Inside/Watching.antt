@@ -1,6 +1,7 @@
 -- What a watch keeps of the rows that it answered last.
 use Rattle.std.specs.Prelude.{◌≡◌, ⊤, ℕ, List, Option, Some, None}
 use Rattle.std.specs.FinMap as finite
+use mathlib.Core.List.{IsPrefix}
 use Rattle.group_history.specs.declared.scans.Scan.{Scan}
 use Rattle.group_history.specs.Map.{Entries}
 use Rattle.group_history.specs.Meaning.{Meanings}
@@ -14,6 +15,10 @@ use Rattle.head_word.specs.declared.entry.Entry.{Entry}
 use Rattle.head_word.specs.Books.{drawn, record_of}
 use Rattle.map_chunks.specs.Covers.{Covers}
 use Rattle.map_chunks.specs.Scanning.{scanned}
+use Rattle.transactions.specs.Rescans.{IsRescanned}
+use Rattle.transactions.specs.Spans.{AreSpans}
+use Rattle.transactions.specs.declared.again.Rescanned.{Rescanned}
+use Rattle.transactions.specs.declared.spans.Span.{Span}
 use Rattle.rebase.specs.declared.watching.LastAnswer.{LastAnswer}
 
 abbrev pub rows_told : Option LastAnswer → Option Rows
@@ -28,8 +33,18 @@ CoversMap contents scan cover m = Covers scan contents cover (scanned scan (fini
 abbrev pub CoversView : Meanings → List Entry → Scan → List ℕ → Type 0
 CoversView means log scan cover = CoversMap (drawn log) scan cover (view_of means (after (record_of log)))
 
--- The rows are those of the map that the root spells, and lie in the chunks of the cover.
+-- the rows of the view there that the scan has, its limit aside
+abbrev pub unlimited : Meanings → List Entry → Scan → Rows
+unlimited means log scan = scanned scan (finite.entries (view_of means (after (record_of log))))
+
+-- what a scan there finds that is made again, where these spans are of the rows of before: in all that is known
+abbrev pub IsFoundAgain : Meanings → List Entry → Scan → Rows → List Span → Rescanned → Type 0
+IsFoundAgain means log scan told known found = (all : Contents) → IsPrefix (drawn log) all
+    → AreSpans scan all told known → IsRescanned scan all told (unlimited means log scan) found
+
+-- The rows are those of the map that the root spells, lie in the chunks of the cover, and have these spans.
 abbrev pub AreRead : Contents → Scan → Option LastAnswer → Type 0
 AreRead contents scan None = ⊤
 AreRead contents scan (Some told) = (m : Entries) × (map_at contents (stamp_of told.root) ≡ Some m)
     × (told.rows ≡ rows_of scan m) × CoversMap contents scan told.cover m
+    × AreSpans scan contents told.rows told.spans
