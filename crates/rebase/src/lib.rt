@@ -17,7 +17,8 @@
 //! Gone. A group is counted by a client (`slots`), since a load without a seat tells nothing that a clause could name.
 //! A call that may wait tries 1,000 times before it begins anew; in between it has no pin and no taken slot. A watch
 //! may be polled by any client of its group: it keeps the rows told last and what was seen of the book then, so at a
-//! root that it met before, and where all chunks are the same in which its rows lie, a poll reads no row. A seat that
+//! root that it met before, and where all chunks are the same in which its rows lie, a poll reads no row; else it reads
+//! only chunks that the last one didn't meet, unless the scan has a limit. A seat that
 //! comes back needs the room that it left, so `back` takes no memory. A list of calls says of each what `make_call`
 //! says of one (`IsMade`), but that the client rests in between.
 //! A reader that is kept (`Reader`) has its client: its model is the client's, and its type keeps that the pin is held,

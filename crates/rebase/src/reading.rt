@@ -96,6 +96,19 @@ impl<M: Means> Point<M> {
         self.mark.copy()
     }
 
+    // What has been seen there, and what the mark has seen.
+    fn mark_with<S: Slots<M>>(&self, shared: &Shared<M, S>, other: &Mark<M>) -> Mark<M>
+        requires book { self.now.book ≡ shared.now.book }
+        requires other { other.now.book ≡ shared.now.book }
+        ensures book { result.book ≡ self.now.book }
+        ensures own { IsPrefix self.now.log result.log }
+        ensures other { IsPrefix other.now.log result.log }
+    {
+        let mut mark = self.mark();
+        shared.head.learn(&mut mark, other);
+        mark
+    }
+
     // Of what has been seen there and what the mark has seen one begins the other.
     pub(crate) fn begins_or_follows(&self, mark: &Mark<M>)
         requires { mark.now.book ≡ self.now.book }
@@ -247,11 +260,9 @@ impl<'a, M: Means, S: Slots<M>> ReadTx<'a, M, S> {
         ensures own { IsPrefix (seen_by self.now).log result.log }
         ensures other { IsPrefix other.now.log result.log }
     {
-        let mut mark = self.at.mark();
         let client = &*self.client;
         let group: &SharedGroup<M, S> = &client.group;
-        group.shared.head.learn(&mut mark, other);
-        mark
+        self.at.mark_with(&group.shared, other)
     }
 
     /// Whether the view has no key. Takes no memory.

@@ -166,12 +166,8 @@ fn read_first<M: Means, S: Slots<M>>(
     let none = Spans::none(tx.alloc())?;
     let before = Vec::new(tx.alloc());
     let Rescanned { others, spans } = tx.scan_again(scan, before.as_slice(), &none)?;
-    let rows = match others {
-        Some(rows) => rows,
-        None => before,
-    };
     Ok(Found {
-        others: Some(rows),
+        others: Some(others.unwrap_or(before)),
         spans,
         mark: tx.point().mark(),
     })
@@ -309,9 +305,9 @@ impl<M: Means> Watch<M> {
         requires rows { self.old.last ≡ Some (view_rows M.means (read_by tx.now) self.old.scan) }
         ensures { self.new ≡ self.old }
     {
-        let mark = tx.mark_with(&self.mark);
+        let seen = tx.mark_with(&self.mark);
         if let Some(told) = self.last.take() {
-            self.keep(tx.point(), mark, cover, told.spans, told.rows);
+            self.keep(tx.point(), seen, cover, told.spans, told.rows);
         }
     }
 

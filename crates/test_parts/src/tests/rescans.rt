@@ -1,5 +1,5 @@
-//! How many nodes a scan that is made again shows.
-ghost use Rattle.std.specs.Prelude.{◌≡◌, IsSome, IfOk, map};
+//! How many nodes are shown where a scan is made again.
+ghost use Rattle.std.specs.Prelude.{IfOk, IsSome, map};
 ghost use Rattle.group_history.specs.Naming.{content_of};
 ghost use Rattle.group_history.specs.Refs.{stamp_of};
 ghost use Rattle.group_history.specs.Spelling.{version_at};
@@ -9,17 +9,33 @@ use commit_graph::VecNodes;
 use group_history::{Json, Ref, Refusal, Scan, Start, Text};
 use std::alloc::Global;
 use std::prelude::*;
-use transactions::{ReadTx, Rescanned, Spans};
+use transactions::{ReadTx, Spans};
 
-/// What a scan that is made again finds at a commit, and how many nodes are shown until then.
-fn rescanned(
+/// The rows of a scan that were told last, their spans, and how many nodes were shown for them.
+#[derive(Drop)]
+struct Told {
+    rows: Vec<(Text, Json)>,
+    spans: Spans,
+    shown: u64,
+}
+
+/// Nothing was told yet.
+fn untold(alloc: Global) -> Result<Told, Refusal> {
+    Ok(Told {
+        rows: Vec::new(alloc),
+        spans: Spans::none(alloc)?,
+        shown: 0,
+    })
+}
+
+/// What is told at a commit behind what was told before.
+fn told_behind(
     alloc: Global,
     nodes: &VecNodes,
     head: Ref,
     scan: &Scan,
-    before: &[(Text, Json)],
-    known: &Spans,
-) -> Result<(Rescanned, u64), Refusal>
+    before: Told,
+) -> Result<Told, Refusal>
     requires { IsSome (version_at (map content_of nodes.now) (stamp_of head)) }
 {
     let counted = Counted {
@@ -30,41 +46,45 @@ fn rescanned(
         Ok(tx) => tx,
         Err((_, stop)) => return Err(Refusal::from(stop)),
     };
-    let found = tx.scan_again(scan, before, known)?;
-    Ok((found, tx.close().shown))
+    let found = tx.scan_again(scan, before.rows.as_slice(), &before.spans)?;
+    let rows = match found.others {
+        Some(rows) => rows,
+        None => before.rows,
+    };
+    Ok(Told {
+        rows,
+        spans: found.spans,
+        shown: tx.close().shown,
+    })
 }
 
-/// The rows of a map of so many keys, as they are told first, the value of the key being changed then, and what is told
-/// next: how many rows there are, how many nodes are shown at first, and how many then.
-fn shown_behind(alloc: Global, count: u32, change: &str) -> Result<(u64, u64, bool), Refusal> {
-    let (mut nodes, head) = with_keys(alloc, &[], count)?;
+/// How many nodes are shown for the rows of a map of 1,000 keys: at first, behind a change of one of them, back where
+/// they were, and there again. And how many rows there are.
+fn shown_behind(alloc: Global, change: &str) -> Result<([u64; 4], usize), Refusal> {
     let scan = Scan {
         prefix: Text::new(alloc, "k")?,
         start: Start::Any,
         limit: None,
     };
-    let none = Spans::none(alloc)?;
-    let (first, shown) = rescanned(alloc, &nodes, head, &scan, &[], &none)?;
-    let Some(rows) = first.others else {
-        return Ok((0, shown, false));
-    };
+    let (mut nodes, old) = with_keys(alloc, &[], 1_000)?;
+    let first = told_behind(alloc, &nodes, old, &scan, untold(alloc)?)?;
+    let at_first = first.shown;
     let pull = pulled(alloc, change)?;
-    let new = add_rebased(alloc, &mut nodes, head, &[], &pull)?;
-    let (again, next) = rescanned(alloc, &nodes, new, &scan, rows.as_slice(), &first.spans)?;
-    let Some(others) = again.others else {
-        return Ok((shown, next, rows.len() == count as usize));
-    };
-    let (third, last) = rescanned(alloc, &nodes, head, &scan, others.as_slice(), &again.spans)?;
-    if last > 1000 { return Ok((last, next, false)); }
-    let _ = third;
-    Ok((shown, next, others.len() == count as usize))
+    let new = add_rebased(alloc, &mut nodes, old, &[], &pull)?;
+    let second = told_behind(alloc, &nodes, new, &scan, first)?;
+    let behind = second.shown;
+    let third = told_behind(alloc, &nodes, old, &scan, second)?;
+    let back = third.shown;
+    let last = told_behind(alloc, &nodes, old, &scan, third)?;
+    Ok(([at_first, behind, back, last.shown], last.rows.len()))
 }
 
+// The map has 128 chunks, on three levels; and each time the commit is shown.
 #[test]
 fn a_scan_made_again_shows_new_chunks_alone(rt: HostRuntime) -> Result<(), Refusal> {
     let change = r#"{"cookie":2,"lastMutationIDChanges":{},"patch":[{"op":"put","key":"k500","value":0}]}"#;
-    let (first, next, all) = shown_behind(rt.alloc(), 1_000, change)?;
-    assert!(rt; all);
-    assert_eq!(rt; (first, next), (0, 0));
+    let (shown, rows) = shown_behind(rt.alloc(), change)?;
+    assert_eq!(rt; shown, [129, 4, 4, 1]);
+    assert_eq!(rt; rows, 1_000);
     Ok(())
 }
