@@ -109,7 +109,9 @@ read_kept mine theirs scan (Some told) more read =
 -- where a scan has no limit, all its rows are told
 pub all_told : (means : Meanings) (s : State) (scan : Scan) → scan.limit ≡ None
     → scanned scan (finite.entries (view_of means s)) ≡ view_rows means s scan
-all_told means s scan none = sym (ap (λ (l : Option ℕ). limited l (scanned scan (finite.entries (view_of means s)))) none)
+all_told means s scan none =
+    let rows = scanned scan (finite.entries (view_of means s)) in
+    sym (ap (λ (l : Option ℕ). limited l rows) none)
 
 -- no spans say nothing
 pub spans_none : (scan : Scan) (contents : Contents) (rows : Rows) (spans : List Span) → spans ≡ []

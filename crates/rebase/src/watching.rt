@@ -3,10 +3,10 @@
 //! A watch keeps the rows that it answered last, the root of the map that they were read from, and the few topmost
 //! chunks in which the rows of its scan lie there (`Cover`). What a stamp spells never changes. So at a commit of the
 //! same root the rows are the same; and where other keys changed the root is another, but the chunks are the same, and
-//! so the rows are. In both cases none is read. Where others are there it keeps which rows are which chunk's (`Spans`),
-//! and a poll reads only chunks that the last one didn't meet; but each, where the scan has a limit. The type keeps that
-//! the rows are those of the root, lie in the chunks and have the spans (`AreRead`), in what was seen of the book when
-//! they were read; of that and what a client has seen one begins the other, and the watch keeps what both have seen.
+//! so the rows are. In both cases none is read. Else, where the scan has no limit, a poll reads only chunks that the
+//! last one didn't meet: the watch keeps which rows are which chunk's (`Spans`). The type keeps that the rows are those
+//! of the root, lie in the chunks and have the spans (`AreRead`), in what was seen of the book when they were read; of
+//! that and what a client has seen one begins the other, and the watch keeps what both have seen.
 ghost use Rattle.std.specs.Option.{option_copied};
 ghost use Rattle.std.specs.Prelude.{◌≡◌, ◌⊎◌, T, Some, None, Ok, true, IfOk, IfErr, IfNone, IfSome, IsSome};
 ghost use Rattle.std.specs.Cmp as laws;
@@ -98,8 +98,8 @@ pub enum Polled {
     Unchanged,
 }
 
-/// The rows that were answered last, the root of the map that they were read from, the chunks in which they lie, and which
-/// of them are which chunk's.
+/// The rows that were answered last, the root of the map that they were read from, the chunks in which they lie, and
+/// which of them are which chunk's.
 #[derive(Drop)]
 pub(crate) struct LastAnswer {
     root: Ref,

@@ -1,5 +1,5 @@
 -- What a scan that is made again finds.
-use Rattle.std.specs.Prelude.{◌≡◌, ℕ, List, Option, IfSome, IfNone}
+use Rattle.std.specs.Prelude.{◌≡◌, List, Option, IfSome, IfNone}
 use mathlib.Core.List.{IsPrefix}
 use Rattle.group_history.specs.declared.scans.Scan.{Scan}
 use Rattle.group_history.specs.Rows.{Rows}

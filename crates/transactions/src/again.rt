@@ -1,10 +1,9 @@
 //! Scans that are made again: only chunks that are new are read.
 //!
-//! Of a chunk that the scan met before, its rows are among those of before, and its span says which they are. So they are
-//! taken from there, and neither the chunk nor one below it is shown. A chunk whose span isn't found is shown, and its
-//! rows or the chunks below it are taken as a scan takes them. The scan's limit is left aside.
-
-ghost use Rattle.std.specs.Prelude.{◌≡◌, ◌⊎◌, ◌-◌, ◌++◌, [], length, take, drop, Some, None, T};
+//! Of a chunk that the scan met before, its rows are among those of before, and its span says which they are. So they
+//! are taken from there, and neither the chunk nor one below it is shown. A chunk whose span isn't found is shown, and
+//! its rows or the chunks below it are taken as a scan takes them. The scan's limit is left aside.
+ghost use Rattle.std.specs.Prelude.{◌≡◌, ◌⊎◌, ◌-◌, ◌++◌, [], length, Some, None, T};
 ghost use Rattle.std.specs.Prelude.{IfErr, IfNone, IfOk, IfSome, OnOk};
 ghost use Rattle.std.specs.List.{Contains};
 ghost use mathlib.Core.List.{IsPrefix};
@@ -180,8 +179,8 @@ impl<'a, B: PreviousRows> Rescan<'a, B> {
     }
 }
 
-/// Takes the scan's rows of the chunk, its limit aside, beside those of before, of which these spans are known. Stops for
-/// want of memory, or as the store does.
+/// Takes the scan's rows of the chunk, its limit aside, beside those of before, of which these spans are known. Stops
+/// for want of memory, or as the store does.
 pub(crate) fn scan_again<C: Chunks>(
     alloc: Global,
     chunks: &mut C,

@@ -7,8 +7,8 @@
 //! `Staged` shows what is placed and a draft's nodes behind it as one, so a tree builds on nodes that are not placed
 //! yet. A view hands back only what it shows, so after a run of a mutator nothing would be known of the chunks that
 //! were read: where they can't change, a type parameter names their contents (`Fixed`, `NamesContents`). `RowDiff`
-//! takes the rows of a scan beside those of before, where they lie, and copies them from the first one on that differs. A
-//! scan that is made again reads only chunks that it didn't meet before: of the others `Spans` tell the rows.
+//! takes the rows of a scan beside those of before, where they lie, and copies them from the first one on that differs.
+//! A scan that is made again reads only chunks that it didn't meet before: of the others `Spans` tell the rows.
 #![tactic(auto)]
 
 mod again;

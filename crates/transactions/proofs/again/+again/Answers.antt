@@ -1,5 +1,5 @@
-use Rattle.std.proofs.Common.{[], ◌++◌, inl, inr, true, None, Some, ◌≡◌, ◌∙◌, ℕ, List, refl, ap, sym, subst, arith, length, slice_get}
-use Rattle.std.proofs.Common.{slice_index_or}
+use Rattle.std.proofs.Common.{[], ◌++◌, inl, inr, true, None, Some, ◌≡◌, ◌∙◌, ℕ, refl, ap, sym, subst, arith, length}
+use Rattle.std.proofs.Common.{slice_get, slice_index_or}
 use Rattle.std.proofs.lemmas.List.{append-nil}
 use Rattle.std.proofs.lemmas.List.Elements.{Contains-get_or}
 use Rattle.group_history.specs.declared.nodes.Chunk.{Chunk}
@@ -235,9 +235,10 @@ take_shown-returns-clause-more g t c before all pre up spans tree rows h =
     let more = c.in_ok-answer.ensures.more before all (prefix_trans before p q pre c.show.ensures.grown.0) up spans tree
     rows begun in
     let here : Rows = n.rows in
-    let mid = subst (λ w. HasFound scan all c.take_chunk-answer.new.again (rows ++ scanned scan (rows_or w))) n.is more in
+    let taken = c.take_chunk-answer.new.again in
+    let mid = subst (λ w. HasFound scan all taken (rows ++ scanned scan (rows_or w))) n.is more in
     subst (λ w. HasFound scan all c.end.new.self (rows ++ scanned scan (rows_or w))) (sym n.is)
-    (found_ended scan all k c.in_ok-begun.begun.from here rows c.take_chunk-answer.new.again c.end.new.self
+    (found_ended scan all k c.in_ok-begun.begun.from here rows taken c.end.new.self
     (chunk_rows-kept before all k here up n.is) (c.in_ok-begun.ensures.from ∙ ap length h.taken) c.end.ensures.rows
     (λ s m. elim (c.end.ensures.spans s m) [
       | inl x ↦ inl x

@@ -1,4 +1,4 @@
-use Rattle.std.proofs.Common.{[], sym, subst, ◌∙◌}
+use Rattle.std.proofs.Common.{[], sym, subst}
 use Rattle.group_history.specs.Refs.{stamp_of}
 use Rattle.group_history.specs.Rows.{Rows}
 use Rattle.group_history.proofs.Lists.{prefix_self}

@@ -7,7 +7,8 @@ use Rattle.transactions.proofs.again.Rescan.begin.Goals as goal
 
 pub returns-clause-spans : goal.returns-clause-spans
 returns-clause-spans g c s h =
-    elim (Contains-push_cases c.self.inside.spans.items _ s (subst (λ xs. Contains xs s) c.in_ok-push.ensures.items h)) [
+    let own = c.self.inside.spans.items in
+    elim (Contains-push_cases own _ s (subst (λ xs. Contains xs s) c.in_ok-push.ensures.items h)) [
       | inl p ↦ inl (subst (λ (f : Found). Contains f.spans s) c.self.view_is p)
       | inr e ↦ inr (ap (λ (w : Span). w.stamp) (sym e))
     ]

@@ -1,5 +1,5 @@
 use Rattle.std.proofs.Common.{◌≡◌, ◌++◌, ap, ◌∙◌}
-use Rattle.group_history.specs.Rows.{Rows, paired, keys_of, values_of}
+use Rattle.group_history.specs.Rows.{Rows, paired, keys_of}
 use Rattle.group_history.proofs.Pairs.{paired-parts}
 use Rattle.map_chunks.specs.Scanning.{scanned}
 use Rattle.transactions.specs.Rescans.{Found}
