@@ -8,7 +8,7 @@ use Rattle.std.specs.declared.cmp.Ordering.TheVariants.{Less, Equal, Greater}
 use Rattle.std.proofs.lemmas.List.Elements.{Contains-append_cases, Contains-append_left, Contains-append_right}
 use Rattle.std.proofs.lemmas.Map.Lookups.{exact_unsigned}
 use Rattle.commit_graph.specs.declared.founds.Found.{Found}
-use Rattle.commit_graph.specs.Inside.Reach.{stamp_in, AreKeyed, HasStamp, Walked, Adds}
+use Rattle.commit_graph.specs.Inside.Reach.{stamp_in, AreKeyed, HasStamp, Joins, Walked, Adds}
 use Rattle.group_history.proofs.Lists.{only_one, cons_cases, no_element, one_here, first_here, later_here, map_to}
 
 keyed_first : (e : ℕ × Found) (es : List (ℕ × Found)) → AreKeyed (e ∷ es) → e.0 ≡ stamp_in e.1
@@ -21,12 +21,6 @@ stamps_twice : (es : List (ℕ × Found)) → map (λ (e : ℕ × Found). stamp_
     ≡ map stamp_in (map (λ (e : ℕ × Found). e.1) es)
 stamps_twice [] = refl
 stamps_twice (e ∷ es) = ap (λ w. stamp_in e.1 ∷ w) (stamps_twice es)
-
--- news are olds and xs, one for each stamp
-pub record Joins (olds xs news : List Found) : Type 0 where
-  pub from : (f : Found) → Contains news f → Contains olds f ⊎ Contains xs f
-  pub kept : (f : Found) → Contains olds f → HasStamp news (stamp_in f)
-  pub added : (f : Found) → Contains xs f → HasStamp news (stamp_in f)
 
 pub inserted : (es : List (ℕ × Found)) (f : Found) → AreKeyed es
     → Joins (map (λ (e : ℕ × Found). e.1) es) (f ∷ [])

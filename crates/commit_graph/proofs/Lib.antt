@@ -14,4 +14,6 @@ mod Choosing
 mod Descending
 mod Rooted
 mod Narrowing
+mod Noting
+mod Topping
 pub mod Seating

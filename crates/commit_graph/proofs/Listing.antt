@@ -16,7 +16,7 @@ use Rattle.map_chunks.specs.Places.{AreAll}
 use Rattle.commit_graph.specs.declared.founds.Found.{Found}
 use Rattle.commit_graph.specs.declared.founds.Found.TheVariants as found
 use Rattle.commit_graph.specs.Reach.{Reaches, itself, through, Falls, stamps_of}
-use Rattle.commit_graph.specs.Inside.Reach.{AreFound, ref_in, stamp_in, found_in, IsSpelled, HasStamp, Walked, Adds}
+use Rattle.commit_graph.specs.Inside.Reach.{AreFound, ref_in, stamp_in, found_in, IsSpelled, HasStamp, Notes, Walked, Adds}
 use Rattle.std.specs.Prelude.{IsSome}
 use Rattle.commit_graph.proofs.Descending.{map_ordered}
 use Rattle.commit_graph.proofs.Rooted.{map_some_stays, kept_grown}
@@ -233,6 +233,30 @@ listing_step was may first ns head root at n out keys rest news is cut same low 
       grown = is.grown;
       wider = is.wider;
     }
+
+-- Some stamps more that the root reaches are known as met.
+pub listing_noted : (was may : Ref → Type 0) (first ns : Contents) (head : Ref) (root : ℕ) (out : List Ref)
+    (keys rest noted : Walked)
+    → IsListing was may first ns head root out keys → rest.met ≡ keys.met → Notes (Reaches ns root) rest noted
+    → IsListing was may first ns head root out (record { ahead = keys.ahead; met = noted.met })
+listing_noted was may first ns head root out keys rest noted is same notes = record {
+  listed = is.listed;
+  apart = is.apart;
+  ahead = is.ahead;
+  begun = is.begun;
+  whole = is.whole;
+  places = is.places;
+  places_ahead = is.places_ahead;
+  falls = is.falls;
+  above = is.above;
+  met = λ x h. elim (notes.1 x h) [
+    | inl p ↦ is.met x (subst (λ (w : List ℕ). Contains w x) same p)
+    | inr q ↦ inr q
+  ];
+  rooted = is.rooted;
+  grown = is.grown;
+  wider = is.wider;
+}
 
 -- What the root keeps is passed over.
 pub listing_skip : (was may : Ref → Type 0) (first ns : Contents) (head : Ref) (root : ℕ) (at : Found) (out : List Ref)

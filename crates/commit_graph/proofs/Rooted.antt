@@ -198,6 +198,11 @@ some_segment ns k h = of (segment_at ns k) h
     of None h = absurd (cc h)
     of (Some s) h = (s, refl)
 
+pub segment_some_stays : (ns more : Contents) (k : ℕ) → IsPrefix ns more → IsSome (segment_at ns k)
+    → IsSome (segment_at more k)
+segment_some_stays ns more k pre h = let s = some_segment ns k h in
+    subst IsSome (sym (segment-grown ns more k s.0 pre s.1)) refl
+
 pub map_some_stays : (ns more : Contents) (k : ℕ) → IsPrefix ns more → IsSome (map_at ns k) → IsSome (map_at more k)
 map_some_stays ns more k pre h = of (map_at ns k) refl h
   where

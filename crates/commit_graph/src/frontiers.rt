@@ -3,43 +3,31 @@
 //! Children have smaller stamps than their parents. So a walk that always takes the greatest stamp meets
 //! no node twice, and needs no set of all that it has met. What it knows of that only spares it to add a node once
 //! more.
-ghost use Rattle.std.specs.Prelude.{◌≡◌, ◌<◌, ◌++◌, [], ◌∷◌, ℕ, IfOk, OnOk, IfSome, IfNone};
+ghost use Rattle.std.specs.Prelude.{◌≡◌, ◌<◌, ◌++◌, [], ◌∷◌, ℕ, IfOk, IsTrue, OnOk, IfSome, IfNone};
 ghost use Rattle.std.specs.List.{Contains};
-ghost use Rattle.commit_graph.specs.Inside.Reach.{stamp_in, Adds};
+ghost use Rattle.commit_graph.specs.Inside.Reach.{stamp_in, Adds, Notes};
 ghost use Rattle.commit_graph.specs.declared.founds.Found.{Found as Finding};
 
+use crate::ahead::{Ahead, stamp_in};
 use crate::founds::Found;
 use crate::met::Met;
 use group_history::Ref;
 use std::alloc::{AllocError, Global};
-use std::collections::BTreeMap;
 use std::marker::Model;
 
 /// Nodes to be looked at, one for each stamp.
 #[derive(Drop)]
 pub struct Frontier {
-    tree: BTreeMap<u64, Found>,
+    ahead: Ahead,
     met: Met,
 }
 
 impl Model for Frontier {
-    ghost use Rattle.std.specs.Prelude.{map};
-    ghost use Rattle.commit_graph.specs.Inside.Reach.{AreKeyed, Walked};
+    ghost use Rattle.commit_graph.specs.Inside.Reach.{Walked};
 
     ghost Value = { Walked };
 
-    ghost view = { λ f. record { ahead = map (λ e. e.1) f.tree.entries; met = f.met } };
-
-    ghost invariant = { λ f. AreKeyed f.tree.entries };
-}
-
-fn stamp_in(found: Found) -> u64
-    ensures { result ≡ stamp_in found }
-{
-    match found {
-        Found::Chunk(at) => at.stamp(),
-        Found::Commit(at) => at.stamp(),
-    }
+    ghost view = { λ f. record { ahead = f.ahead; met = f.met } };
 }
 
 impl Frontier {
@@ -50,7 +38,7 @@ impl Frontier {
     {
         let met = Met::new(alloc, stamp)?;
         Ok(Frontier {
-            tree: BTreeMap::new(alloc),
+            ahead: Ahead::new(alloc),
             met,
         })
     }
@@ -63,9 +51,23 @@ impl Frontier {
         if self.met.has(stamp) {
             return Ok(());
         }
-        self.tree.insert(stamp, found)?;
+        self.ahead.put(found)?;
         self.met.note(stamp);
         Ok(())
+    }
+
+    /// Whether a stamp is known to be met. Not all that were met are known.
+    pub fn knows(&self, stamp: u64) -> bool
+        ensures { IsTrue result → Contains self.now.met stamp }
+    {
+        self.met.has(stamp)
+    }
+
+    /// Notes a stamp as met, so that its node is not added.
+    pub fn note(&mut self, stamp: u64)
+        ensures { Notes (λ x. x ≡ stamp) self.old self.new }
+    {
+        self.met.note(stamp);
     }
 
     /// Takes the node of the greatest stamp.
@@ -76,7 +78,6 @@ impl Frontier {
             → stamp_in other < stamp_in found) }
         ensures met { self.new.met ≡ self.old.met }
     {
-        let (_, found) = self.tree.pop_last()?;
-        Some(found)
+        self.ahead.pop()
     }
 }

@@ -32,6 +32,13 @@ impl Gap {
     }
 }
 
+/// What walks pass over: what a root keeps, and a gap in it.
+#[derive(Clone, Copy)]
+pub struct Part {
+    pub root: Ref,
+    pub gap: Gap,
+}
+
 /// Of some references the one of the greatest stamp, and the greatest stamp of the others.
 #[derive(Clone, Copy)]
 pub struct Tops {

@@ -23,6 +23,8 @@
 //! Tested by counting what is shown: that the shared pulled map is passed over, and that a cookie is two looks away.
 #![tactic(auto)]
 
+mod ahead;
+mod beside;
 mod chains;
 mod founds;
 mod frontiers;

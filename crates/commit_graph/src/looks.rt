@@ -1,19 +1,27 @@
 //! One look of a walk: a node is shown, and what it names joins the frontier.
-ghost use Rattle.std.specs.Prelude.{◌≡◌, ◌⊎◌, ◌∷◌, [], map, take, Some, OnOk, IfErr, slice_get};
+ghost use Rattle.std.specs.Prelude.{◌≡◌, ◌⊎◌, ◌∷◌, [], length, map, take, Some, IfOk, OnOk, IfErr, IfNone, IsSome};
+ghost use Rattle.std.specs.Prelude.{slice_get};
+ghost use Rattle.group_history.specs.Refs.{stamp_of};
+ghost use Rattle.group_history.specs.Spelling.{segment_at, map_at};
+ghost use Rattle.group_history.specs.declared.nodes.Chunk.{Chunk as Chunked};
 ghost use Rattle.group_history.specs.Naming.{children, commits_named, content_of};
 ghost use Rattle.group_history.specs.declared.nodes.Node.{Node as Noded};
 ghost use Rattle.group_history.specs.declared.nodes.Node.TheVariants as node;
 ghost use Rattle.group_history.specs.declared.refs.Ref.{Ref as Reference};
 ghost use Rattle.group_history.specs.declared.mutators.Stop.TheVariants.{NoMemory};
-ghost use Rattle.map_chunks.specs.Places.{Grows, AreAll};
-ghost use Rattle.commit_graph.specs.Inside.Reach.{Adds, IsSpelled, ref_in, stamp_in, found_in};
+ghost use Rattle.map_chunks.specs.Places.{Grows, AreAll, IsShown};
+ghost use Rattle.commit_graph.specs.Reach.{Reaches};
+ghost use Rattle.commit_graph.specs.Inside.Reach.{Adds, Notes, Walked, IsSpelled, ref_in, stamp_in, found_in};
 ghost use Rattle.commit_graph.specs.declared.founds.Found.TheVariants as found;
 
+use crate::beside::{Spot, note_beside};
 use crate::chains::look_at_commit;
 use crate::founds::Found;
 use crate::frontiers::Frontier;
+use crate::gaps::Part;
 use crate::nodes::Nodes;
-use group_history::{Chunk, Commit, CommitKind, Ref, Stop};
+use group_history::{Chunk, Commit, CommitKind, Ref, Stop, Text};
+use map_chunks::Chunks;
 use map_chunks::looks::look_at;
 use std::alloc::AllocError;
 
@@ -58,18 +66,120 @@ fn add_of_commit(frontier: &mut Frontier, commit: &Commit<Ref>) -> Result<(), Al
     add_named(frontier, &commit.kind)
 }
 
-/// Shows the node that was found; what it names joins the frontier.
-pub fn look<N: Nodes>(nodes: &mut N, frontier: &mut Frontier, at: Found) -> Result<(), Stop>
+// A child of which a look alone can tell whether the part's root keeps it.
+fn unsure_of(
+    frontier: &Frontier,
+    part: Part,
+    firsts: &[Text],
+    children: &[Ref],
+) -> Result<Option<Spot>, AllocError>
+    requires { length children.now ≡ length firsts.now }
+{
+    let newest = part.root.stamp();
+    for place in 0..children.len() {
+        let child = children[place];
+        let stamp = child.stamp();
+        if frontier.knows(stamp) || stamp > newest || part.gap.has(child) {
+            continue;
+        }
+        let key = firsts[place].clone()?;
+        return Ok(Some(Spot { key, stamp }));
+    }
+    Ok(None)
+}
+
+fn unsure_in(
+    frontier: &Frontier,
+    part: Part,
+    chunk: &Chunk<Ref>,
+) -> Result<Option<Spot>, AllocError> {
+    match chunk {
+        Chunk::Leaf(_) => Ok(None),
+        Chunk::Inner(inner) => unsure_of(
+            frontier,
+            part,
+            inner.firsts().as_slice(),
+            inner.children(),
+        ),
+    }
+}
+
+// The children join the frontier, unless it is worth a descent to find out which are kept.
+fn add_or_tell(
+    frontier: &mut Frontier,
+    part: Part,
+    chunk: &Chunk<Ref>,
+) -> Result<Option<Spot>, AllocError>
+    ensures none { IfOk result (λ spot. IfNone spot
+        (Adds frontier.old (found_in (node.Chunk chunk.now)) frontier.new)) }
+    ensures some { IfOk result (λ spot. IsSome spot → frontier.new ≡ frontier.old) }
+{
+    let spot = unsure_in(frontier, part, chunk)?;
+    if spot.is_none() {
+        add_of_chunk(frontier, chunk)?;
+    }
+    Ok(spot)
+}
+
+// Shows a chunk; its children join the frontier, but for some that the part's root keeps.
+fn look_at_chunk<C: Chunks>(
+    chunks: &mut C,
+    part: Part,
+    frontier: &mut Frontier,
+    at: Ref,
+) -> Result<(), Stop>
+    requires chunk { IsSome (segment_at (C.contents chunks.old) (stamp_of at)) }
+    requires root { IsSome (map_at (C.contents chunks.old) (stamp_of part.root)) }
+    requires places { C.places chunks.old part.root × C.places chunks.old at }
+    ensures grown { Grows C.contents C.places chunks.old chunks.new }
+    ensures added { OnOk result ((c : Chunked Reference) × (noted : Walked)
+        × IsShown (C.places chunks.new) (C.contents chunks.new) (stamp_of at) c
+        × Notes (Reaches (C.contents chunks.new) (stamp_of part.root)) frontier.old noted
+        × Adds noted (found_in (node.Chunk c)) frontier.new) }
+    ensures stopped { IfErr result (λ stop. (stop ≡ NoMemory) ⊎ C.stops stop) }
+{
+    let spot = look_at(
+        chunks,
+        at,
+        &mut |chunk|
+            ensures none { IfOk result (λ spot. IfNone spot
+                (Adds frontier.entry.now (found_in (node.Chunk chunk.now)) frontier.exit.now)) }
+            ensures some { IfOk result (λ spot. IsSome spot → frontier.exit.now ≡ frontier.entry.now) }
+        { add_or_tell(frontier, part, chunk) },
+    )??;
+    let Some(spot) = spot else {
+        return Ok(());
+    };
+    note_beside(chunks, part.root, frontier, &spot)?;
+    Ok(look_at(
+        chunks,
+        at,
+        &mut |chunk|
+            ensures { OnOk result (Adds frontier.entry.now (found_in (node.Chunk chunk.now)) frontier.exit.now) }
+        { add_of_chunk(frontier, chunk) },
+    )??)
+}
+
+/// Shows the node that was found; what it names joins the frontier, but for some that the part's root keeps.
+pub fn look<N: Nodes>(
+    nodes: &mut N,
+    part: Part,
+    frontier: &mut Frontier,
+    at: Found,
+) -> Result<(), Stop>
     requires found { IsSpelled (N.contents nodes.old) at }
-    requires place { N.places nodes.old (ref_in at) }
+    requires root { IsSome (map_at (N.contents nodes.old) (stamp_of part.root)) }
+    requires places { N.places nodes.old part.root × N.places nodes.old (ref_in at) }
     ensures grown { Grows N.contents N.places nodes.old nodes.new }
-    ensures added { OnOk result ((n : Noded Reference) × AreAll (N.places nodes.new) (children n)
+    ensures added { OnOk result ((n : Noded Reference) × (noted : Walked)
+        × AreAll (N.places nodes.new) (children n)
         × (slice_get (N.contents nodes.new) (stamp_in at) ≡ Some (content_of n))
-        × Adds frontier.old (found_in n) frontier.new) }
+        × Notes (Reaches (N.contents nodes.new) (stamp_of part.root)) frontier.old noted
+        × Adds noted (found_in n) frontier.new) }
     ensures stopped { IfErr result (λ stop. (stop ≡ NoMemory) ⊎ N.stops stop) }
 {
     match at {
-        Found::Chunk(at) => Ok(look_at(nodes, at, &mut |chunk| add_of_chunk(frontier, chunk))??),
+        Found::Chunk(at) => look_at_chunk(nodes, part, frontier, at),
         Found::Commit(at) => Ok(look_at_commit(
             nodes,
             at,

@@ -31,7 +31,7 @@ fn chosen(firsts: &[Text], children: &[Ref], key: &Text) -> Option<Ref>
     found
 }
 
-fn child_in(chunk: &Chunk<Ref>, key: &Text) -> Option<Ref>
+pub fn child_in(chunk: &Chunk<Ref>, key: &Text) -> Option<Ref>
     ensures { result ≡ child_for key.now chunk.now }
 {
     match chunk {

@@ -14,11 +14,11 @@ ghost use Rattle.commit_graph.specs.declared.founds.Found.TheVariants as found;
 ghost use Rattle.map_chunks.specs.Places.{Grows, AreAll};
 ghost use Rattle.commit_graph.specs.Reach.{Reaches, IsDropped, Falls, stamps_of};
 ghost use Rattle.commit_graph.specs.Inside.Gaps.{HasGap};
-ghost use Rattle.commit_graph.specs.Inside.Reach.{Adds, IsSpelled, found_in, stamp_in, ref_in};
+ghost use Rattle.commit_graph.specs.Inside.Reach.{Adds, Notes, Walked, IsSpelled, found_in, stamp_in, ref_in};
 
 use crate::founds::Found;
 use crate::frontiers::Frontier;
-use crate::gaps::{Gap, gap_below};
+use crate::gaps::{Part, gap_below};
 use crate::keeping::{base_root, is_kept};
 use crate::looks::look;
 use crate::merging::{add, without};
@@ -33,13 +33,6 @@ fn ref_in(found: Found) -> Ref
         Found::Chunk(at) => at,
         Found::Commit(at) => at,
     }
-}
-
-/// What both walks pass over: what a root keeps, and a gap in it.
-#[derive(Clone, Copy)]
-struct Part {
-    root: Ref,
-    gap: Gap,
 }
 
 // One node of a walk: where the root keeps it, it is passed over with all below it.
@@ -57,16 +50,18 @@ fn visit<N: Nodes>(
     ensures grown { Grows N.contents N.places nodes.old nodes.new }
     ensures visited { OnOk result ((Reaches (N.contents nodes.new) (stamp_of part.root) (stamp_in at)
         × (frontier.new ≡ frontier.old) × (listed.new.items ≡ listed.old.items))
-        ⊎ ((n : Noded Reference) × (Reaches (N.contents nodes.new) (stamp_of part.root) (stamp_in at) → ⊥)
+        ⊎ ((n : Noded Reference) × (noted : Walked)
+        × (Reaches (N.contents nodes.new) (stamp_of part.root) (stamp_in at) → ⊥)
         × AreAll (N.places nodes.new) (children n)
         × (slice_get (N.contents nodes.new) (stamp_in at) ≡ Some (content_of n))
-        × Adds frontier.old (found_in n) frontier.new × (listed.new.items ≡ listed.old.items ++ ref_in at ∷ []))) }
+        × Notes (Reaches (N.contents nodes.new) (stamp_of part.root)) frontier.old noted
+        × Adds noted (found_in n) frontier.new × (listed.new.items ≡ listed.old.items ++ ref_in at ∷ []))) }
     ensures stopped { IfErr result (λ stop. (stop ≡ NoMemory) ⊎ N.stops stop) }
 {
     if is_kept(nodes, part.root, part.gap, at)? {
         return Ok(());
     }
-    look(nodes, frontier, at)?;
+    look(nodes, part, frontier, at)?;
     add(listed, ref_in(at))?;
     Ok(())
 }

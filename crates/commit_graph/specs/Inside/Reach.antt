@@ -1,5 +1,5 @@
 -- What a walk has found, and how its lists stand to one another.
-use Rattle.std.specs.Prelude.{ℕ, ◌≡◌, ◌⊎◌, ◌↔◌, List, ◌∷◌, map, Some}
+use Rattle.std.specs.Prelude.{ℕ, ◌≡◌, ◌<◌, ◌⊎◌, ◌↔◌, List, ◌∷◌, map, Option, Some}
 use Rattle.std.specs.List.{Contains}
 use Rattle.group_history.specs.declared.nodes.Node.{Node}
 use Rattle.group_history.specs.declared.nodes.Node.TheVariants as node
@@ -41,6 +41,16 @@ AreKeyed es = map (λ e. e.0) es ≡ map (λ e. stamp_in e.1) es
 abbrev pub HasStamp : List Found → ℕ → Type 0
 HasStamp fs x = (f : Found) × Contains fs f × (stamp_in f ≡ x)
 
+-- news are olds and xs, one for each stamp
+pub record Joins (olds xs news : List Found) : Type 0 where
+  pub from : (f : Found) → Contains news f → Contains olds f ⊎ Contains xs f
+  pub kept : (f : Found) → Contains olds f → HasStamp news (stamp_in f)
+  pub added : (f : Found) → Contains xs f → HasStamp news (stamp_in f)
+
+-- where one stands at the top, each of the others has a smaller stamp
+abbrev pub IsTop : Option Found → List Found → Type 0
+IsTop top fs = (t f : Found) → top ≡ Some t → Contains fs f → stamp_in f < stamp_in t
+
 -- What a walk still has to look at, and some of the stamps that it has met.
 pub record Walked : Type 0 where
   pub ahead : List Found
@@ -52,6 +62,11 @@ pub record Adds (olds : Walked) (xs : List Found) (news : Walked) : Type 0 where
   pub kept : (f : Found) → Contains olds.ahead f → HasStamp news.ahead (stamp_in f)
   pub added : (f : Found) → Contains xs f → HasStamp news.ahead (stamp_in f) ⊎ Contains olds.met (stamp_in f)
   pub met : (x : ℕ) → Contains news.met x → HasStamp news.ahead x ⊎ Contains olds.met x
+
+-- What is ahead stays. Some stamps that have the property are known as met.
+abbrev pub Notes : (ℕ → Type 0) → Walked → Walked → Type 0
+Notes may olds news = (news.ahead ≡ olds.ahead)
+    × ((x : ℕ) → Contains news.met x → Contains olds.met x ⊎ may x)
 
 -- Left has what stands in before and has no stamp of kept.
 abbrev pub Leaves : List Ref → List Ref → List Ref → Type 0

@@ -1,4 +1,4 @@
-use Rattle.std.proofs.Common.{◌<◌, inl, inr, List, [], ◌∷◌, refl, sym, subst}
+use Rattle.std.proofs.Common.{◌<◌, inl, inr, List, [], ◌∷◌, ◌++◌, ap, refl, sym, subst, ◌∙◌}
 use Rattle.std.specs.List.{Contains}
 use Rattle.std.proofs.lemmas.List.Elements.{Contains-append_right}
 use Rattle.group_history.specs.declared.refs.Ref.{Ref}
@@ -9,8 +9,8 @@ use Rattle.commit_graph.specs.Inside.Reach.{Walked}
 use Rattle.commit_graph.proofs.Chained.{some_version}
 use Rattle.commit_graph.proofs.Reached.{spelled_grown}
 use Rattle.commit_graph.proofs.Rooted.{kept_grown}
-use Rattle.commit_graph.proofs.Listing.{IsListing, bound, listing_begins, listing_grown, listing_step, listing_skip}
-use Rattle.commit_graph.proofs.Listing.{listing_falls, skip_falls, listing_ends}
+use Rattle.commit_graph.proofs.Listing.{IsListing, bound, listing_begins, listing_grown, listing_noted, listing_step}
+use Rattle.commit_graph.proofs.Listing.{listing_skip, listing_falls, skip_falls, listing_ends}
 use Rattle.map_chunks.proofs.KeptLemmas.{grows_on}
 use Rattle.commit_graph.proofs.reaching.reachable.Goals as goal
 
@@ -41,10 +41,11 @@ loop-at-smaller g c =
       | inl p ↦ subst (λ (w : Walked). bound w.ahead < bound c.loop-at.frontier.ahead) (sym p.1)
           (skip_falls c.in-Some.at c.loop-at.frontier.ahead c.pop.new.self.ahead c.in-Some.ensures.some
           c.in-Some.ensures.greatest)
-      | inr q ↦ listing_falls (m c.visit.new.nodes) c.in-Some.at q.0 c.loop-at.frontier c.pop.new.self
-          c.visit.new.frontier
+      | inr q ↦ listing_falls (m c.visit.new.nodes) c.in-Some.at q.0
+          (record { ahead = c.loop-at.frontier.ahead; met = q.1.met }) q.1 c.visit.new.frontier
           (spelled_grown (m c.loop-at.nodes) (m c.visit.new.nodes) c.in-Some.at c.visit.ensures.grown.0 spelled)
-          c.in-Some.ensures.some c.in-Some.ensures.greatest q.3 q.4
+          (c.in-Some.ensures.some ∙ ap (λ (w : List Found). w ++ c.in-Some.at ∷ []) (sym q.5.0))
+          (λ f h. c.in-Some.ensures.greatest f (subst (λ (w : List Found). Contains w f) q.5.0 h)) q.4 q.6
     ]
 
 pub loop-at-preserved : goal.loop-at-preserved
@@ -60,10 +61,13 @@ loop-at-preserved g c =
           (subst (λ (w : Walked). IsListing was may first two c.args.head root c.loop-at.listed.items w) (sym p.1)
           (listing_skip was may first two c.args.head root c.in-Some.at c.loop-at.listed.items c.loop-at.frontier
           c.pop.new.self now c.in-Some.ensures.some c.pop.ensures.met p.0))
-      | inr q ↦ subst (λ (w : List Ref). IsListing was may first two c.args.head root w c.visit.new.frontier) (sym q.5)
-          (listing_step was may first two c.args.head root c.in-Some.at q.0 c.loop-at.listed.items c.loop-at.frontier
-          c.pop.new.self c.visit.new.frontier now c.in-Some.ensures.some c.pop.ensures.met c.in-Some.ensures.greatest
-          q.1 q.2 q.3 q.4)
+      | inr q ↦ subst (λ (w : List Ref). IsListing was may first two c.args.head root w c.visit.new.frontier) (sym q.7)
+          (listing_step was may first two c.args.head root c.in-Some.at q.0 c.loop-at.listed.items
+          (record { ahead = c.loop-at.frontier.ahead; met = q.1.met }) q.1 c.visit.new.frontier
+          (listing_noted was may first two c.args.head root c.loop-at.listed.items c.loop-at.frontier c.pop.new.self q.1
+          now c.pop.ensures.met q.5)
+          (c.in-Some.ensures.some ∙ ap (λ (w : List Found). w ++ c.in-Some.at ∷ []) (sym q.5.0)) refl
+          (λ f h. c.in-Some.ensures.greatest f (subst (λ (w : List Found). Contains w f) q.5.0 h)) q.2 q.3 q.4 q.6)
     ]
 
 pub returns-clause-exact : goal.returns-clause-exact

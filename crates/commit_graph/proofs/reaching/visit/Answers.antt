@@ -20,16 +20,26 @@ returns-clause-visited g c =
     c.look.ensures.grown.0 in
     inr (
       a.0,
+      a.1,
       (λ r. let t : c.in_ok-is_kept.field-0 ≡ true = c.in_ok-is_kept.ensures.kept.1 (both.1 r) in
           let x : false ≡ true = sym c.if-branch.false ∙ t in cc x),
-      a.1,
       a.2,
       a.3,
+      a.4,
+      a.5,
       c.in_ok-add.ensures ∙ ap (λ (r : Ref). c.args.listed.now.items ++ r ∷ []) c.ref_in.ensures,
     )
 
-pub look-requires-clause-place : goal.look-requires-clause-place
-look-requires-clause-place g c = c.is_kept.ensures.grown.1 (ref_in c.args.at) c.requires.places.1
+pub look-requires-clause-places : goal.look-requires-clause-places
+look-requires-clause-places g c = (
+  c.is_kept.ensures.grown.1 c.args.part.root c.requires.places.0,
+  c.is_kept.ensures.grown.1 (ref_in c.args.at) c.requires.places.1,
+)
+
+pub look-requires-clause-root : goal.look-requires-clause-root
+look-requires-clause-root g c = let m = g.N.Chunks.contents in
+    map_some_stays (m c.args.nodes.now) (m c.is_kept.new.nodes) (stamp_of c.args.part.root) c.is_kept.ensures.grown.0
+    c.requires.root
 
 pub returns-in_err-look-clause-grown : goal.returns-in_err-look-clause-grown
 returns-in_err-look-clause-grown g c =
