@@ -163,7 +163,11 @@ pub(super) fn pulled(alloc: Global, body: &str) -> Result<PullOk, Refusal> {
 }
 
 /// The nodes and the head of a group that pulled so many keys, with these mutations pending.
-pub(super) fn with_keys(alloc: Global, pending: &[Mutation], count: u32) -> Result<(VecNodes, Ref), Refusal>
+pub(super) fn with_keys(
+    alloc: Global,
+    pending: &[Mutation],
+    count: u32,
+) -> Result<(VecNodes, Ref), Refusal>
     ensures { IfOk result (λ made. IsSome (version_at (map content_of made.0) (stamp_of made.1))) }
 {
     let body = numbered(alloc, count)?;

@@ -9,7 +9,7 @@ use commit_graph::VecNodes;
 use group_history::{Json, Ref, Refusal, Scan, Start, Text};
 use std::alloc::Global;
 use std::prelude::*;
-use transactions::{ReadTx, Spans};
+use transactions::{ReadTx, Rescanned, Spans};
 
 /// The rows of a scan that were told last, their spans, and how many nodes were shown for them.
 #[derive(Drop)]
@@ -46,14 +46,15 @@ fn told_behind(
         Ok(tx) => tx,
         Err((_, stop)) => return Err(Refusal::from(stop)),
     };
-    let found = tx.scan_again(scan, before.rows.as_slice(), &before.spans)?;
-    let rows = match found.others {
-        Some(rows) => rows,
-        None => before.rows,
-    };
-    Ok(Told {
+    let Told {
         rows,
-        spans: found.spans,
+        spans: known,
+        shown: _,
+    } = before;
+    let Rescanned { others, spans } = tx.scan_again(scan, rows.as_slice(), &known)?;
+    Ok(Told {
+        rows: others.unwrap_or(rows),
+        spans,
         shown: tx.close().shown,
     })
 }
@@ -82,7 +83,8 @@ fn shown_behind(alloc: Global, change: &str) -> Result<([u64; 4], usize), Refusa
 // The map has 128 chunks, on three levels; and each time the commit is shown.
 #[test]
 fn a_scan_made_again_shows_new_chunks_alone(rt: HostRuntime) -> Result<(), Refusal> {
-    let change = r#"{"cookie":2,"lastMutationIDChanges":{},"patch":[{"op":"put","key":"k500","value":0}]}"#;
+    let change =
+        r#"{"cookie":2,"lastMutationIDChanges":{},"patch":[{"op":"put","key":"k500","value":0}]}"#;
     let (shown, rows) = shown_behind(rt.alloc(), change)?;
     assert_eq!(rt; shown, [129, 4, 4, 1]);
     assert_eq!(rt; rows, 1_000);
