@@ -66,33 +66,43 @@ fn add_of_commit(frontier: &mut Frontier, commit: &Commit<Ref>) -> Result<(), Al
     add_named(frontier, &commit.kind)
 }
 
-// A child of which a look alone can tell whether the part's root keeps it.
+// Of the children of which a look alone can tell whether the part's root keeps them: the first. None is told twice.
 fn unsure_of(
-    frontier: &Frontier,
+    frontier: &mut Frontier,
     part: Part,
     firsts: &[Text],
     children: &[Ref],
 ) -> Result<Option<Spot>, AllocError>
     requires { length children.now ≡ length firsts.now }
+    ensures { frontier.new ≡ frontier.old }
 {
     let newest = part.root.stamp();
+    let mut first = None;
     for place in 0..children.len() {
         let child = children[place];
         let stamp = child.stamp();
-        if frontier.knows(stamp) || stamp > newest || part.gap.has(child) {
-            continue;
+        if stamp <= newest && !part.gap.has(child) && frontier.is_worth(stamp) {
+            frontier.tries(stamp);
+            first = first.or(Some(place));
         }
-        let key = firsts[place].clone()?;
-        return Ok(Some(Spot { key, stamp }));
     }
-    Ok(None)
+    let Some(place) = first else {
+        return Ok(None);
+    };
+    let key = firsts[place].clone()?;
+    Ok(Some(Spot {
+        key,
+        stamp: children[place].stamp(),
+    }))
 }
 
 fn unsure_in(
-    frontier: &Frontier,
+    frontier: &mut Frontier,
     part: Part,
     chunk: &Chunk<Ref>,
-) -> Result<Option<Spot>, AllocError> {
+) -> Result<Option<Spot>, AllocError>
+    ensures { frontier.new ≡ frontier.old }
+{
     match chunk {
         Chunk::Leaf(_) => Ok(None),
         Chunk::Inner(inner) => unsure_of(
@@ -114,11 +124,11 @@ fn add_or_tell(
         (Adds frontier.old (found_in (node.Chunk chunk.now)) frontier.new)) }
     ensures some { IfOk result (λ spot. IsSome spot → frontier.new ≡ frontier.old) }
 {
-    let spot = unsure_in(frontier, part, chunk)?;
-    if spot.is_none() {
+    let Some(spot) = unsure_in(frontier, part, chunk)? else {
         add_of_chunk(frontier, chunk)?;
-    }
-    Ok(spot)
+        return Ok(None);
+    };
+    Ok(Some(spot))
 }
 
 // Shows a chunk; its children join the frontier, but for some that the part's root keeps.
