@@ -3,7 +3,7 @@
 //! Children have smaller stamps than their parents. So a walk that always takes the greatest stamp meets
 //! no node twice, and needs no set of all that it has met. What it knows of that only spares it to add a node once
 //! more.
-ghost use Rattle.std.specs.Prelude.{◌≡◌, ◌<◌, ◌++◌, [], ◌∷◌, ℕ, IfOk, OnOk, IfSome, IfNone};
+ghost use Rattle.std.specs.Prelude.{◌≡◌, ◌<◌, ◌++◌, [], ◌∷◌, ℕ, IfOk, IsTrue, OnOk, IfSome, IfNone};
 ghost use Rattle.std.specs.List.{Contains};
 ghost use Rattle.commit_graph.specs.Inside.Reach.{stamp_in, Adds, Notes};
 ghost use Rattle.commit_graph.specs.declared.founds.Found.{Found as Finding};
@@ -20,8 +20,6 @@ use std::marker::Model;
 pub struct Frontier {
     ahead: Ahead,
     met: Met,
-    // For which a descent was made that told what else is met. What is ahead doesn't depend on it.
-    tried: Met,
 }
 
 impl Model for Frontier {
@@ -39,11 +37,9 @@ impl Frontier {
         ensures met { IfOk result (λ frontier. (x : ℕ) → Contains frontier.met x → x ≡ stamp) }
     {
         let met = Met::new(alloc, stamp)?;
-        let tried = Met::new(alloc, stamp)?;
         Ok(Frontier {
             ahead: Ahead::new(alloc),
             met,
-            tried,
         })
     }
 
@@ -60,16 +56,11 @@ impl Frontier {
         Ok(())
     }
 
-    /// Whether a descent to the place of a stamp may tell more: it isn't known to be met, nor was it tried before.
-    pub fn is_worth(&self, stamp: u64) -> bool {
-        !self.met.has(stamp) && !self.tried.has(stamp)
-    }
-
-    /// A descent is made to the place of the stamp.
-    pub fn tries(&mut self, stamp: u64)
-        ensures { self.new ≡ self.old }
+    /// Whether a stamp is known to be met. Not all that were met are known.
+    pub fn knows(&self, stamp: u64) -> bool
+        ensures { IsTrue result → Contains self.now.met stamp }
     {
-        self.tried.note(stamp);
+        self.met.has(stamp)
     }
 
     /// Notes a stamp as met, so that its node is not added.

@@ -2,7 +2,7 @@
 //!
 //! A pull changes little of a map, so that its new root reaches some new chunks, and else only old ones. What was
 //! placed between those is not in its tree, and needs no look.
-ghost use Rattle.std.specs.Prelude.{◌≡◌, ◌⊎◌, ◌<◌, ◌≤◌, ◌++◌, [], ◌∷◌, List, IfOk, IfErr, IsSome, IsTrue};
+ghost use Rattle.std.specs.Prelude.{◌≡◌, ◌⊎◌, ◌<◌, ◌≤◌, ◌++◌, [], ◌∷◌, ℕ, List, IfOk, IfErr, IsSome, IsTrue};
 ghost use Rattle.group_history.specs.Refs.{stamp_of};
 ghost use Rattle.group_history.specs.Naming.{chunk_children};
 ghost use Rattle.group_history.specs.Spelling.{segment_at, map_at};
@@ -24,6 +24,13 @@ pub struct Gap {
 }
 
 impl Gap {
+    /// Whether nothing is known of any stamp: a pull that changed much has no gap.
+    pub fn is_empty(self) -> bool
+        ensures { IsTrue result → (x : ℕ) → IsBetween self x → ⊥ }
+    {
+        self.high <= self.low
+    }
+
     pub fn has(self, at: Ref) -> bool
         ensures { IsTrue result → IsBetween self (stamp_of at) }
     {

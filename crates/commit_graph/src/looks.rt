@@ -66,45 +66,36 @@ fn add_of_commit(frontier: &mut Frontier, commit: &Commit<Ref>) -> Result<(), Al
     add_named(frontier, &commit.kind)
 }
 
-// Of the children of which a look alone can tell whether the part's root keeps them: the first. None is told twice.
+// A child of which a look alone can tell whether the part's root keeps it.
 fn unsure_of(
-    frontier: &mut Frontier,
+    frontier: &Frontier,
     part: Part,
     firsts: &[Text],
     children: &[Ref],
 ) -> Result<Option<Spot>, AllocError>
     requires { length children.now ≡ length firsts.now }
-    ensures { frontier.new ≡ frontier.old }
 {
     let newest = part.root.stamp();
-    let mut first = None;
     for place in 0..children.len() {
         let child = children[place];
         let stamp = child.stamp();
-        if stamp <= newest && !part.gap.has(child) && frontier.is_worth(stamp) {
-            frontier.tries(stamp);
-            first = first.or(Some(place));
+        if frontier.knows(stamp) || stamp > newest || part.gap.has(child) {
+            continue;
         }
+        let key = firsts[place].clone()?;
+        return Ok(Some(Spot { key, stamp }));
     }
-    let Some(place) = first else {
-        return Ok(None);
-    };
-    let key = firsts[place].clone()?;
-    Ok(Some(Spot {
-        key,
-        stamp: children[place].stamp(),
-    }))
+    Ok(None)
 }
 
 fn unsure_in(
-    frontier: &mut Frontier,
+    frontier: &Frontier,
     part: Part,
     chunk: &Chunk<Ref>,
-) -> Result<Option<Spot>, AllocError>
-    ensures { frontier.new ≡ frontier.old }
-{
+) -> Result<Option<Spot>, AllocError> {
     match chunk {
         Chunk::Leaf(_) => Ok(None),
+        Chunk::Inner(_) if part.gap.is_empty() => Ok(None),
         Chunk::Inner(inner) => unsure_of(
             frontier,
             part,
@@ -114,7 +105,8 @@ fn unsure_in(
     }
 }
 
-// The children join the frontier, unless it is worth a descent to find out which are kept.
+// The children join the frontier, unless it is worth a descent to find out which are kept. Where a pull changed so much
+// that there is no gap, few are, and each descent would be one more.
 fn add_or_tell(
     frontier: &mut Frontier,
     part: Part,
@@ -124,11 +116,11 @@ fn add_or_tell(
         (Adds frontier.old (found_in (node.Chunk chunk.now)) frontier.new)) }
     ensures some { IfOk result (λ spot. IsSome spot → frontier.new ≡ frontier.old) }
 {
-    let Some(spot) = unsure_in(frontier, part, chunk)? else {
+    let spot = unsure_in(frontier, part, chunk)?;
+    if spot.is_none() {
         add_of_chunk(frontier, chunk)?;
-        return Ok(None);
-    };
-    Ok(Some(spot))
+    }
+    Ok(spot)
 }
 
 // Shows a chunk; its children join the frontier, but for some that the part's root keeps.
