@@ -9,8 +9,9 @@
 //! the root of the new head's pulled map. The new head reaches all that R reaches, so reach(old) - reach(new) =
 //! (reach(old) - reach(R)) - (reach(new) - reach(R)), and both walks may pass over whatever R reaches. Whether R
 //! reaches a chunk is one descent by the chunk's first key: it meets the chunk, or R does not reach it. So a tree that
-//! a pull shares with the past is not looked through, and the answer is exact for any two heads. A mutation drops
-//! nothing.
+//! a pull shares with the past is not looked through, and the answer is exact for any two heads. A chunk that was made
+//! anew has most of its children in common with the chunk at the same place of R's tree: one descent leads there, and
+//! what it has is passed over by its stamps, with no descent for each. A mutation drops nothing.
 //!
 //! A client's last id is that of the newest of its commits, or else what the snapshot confirmed. The search begins at
 //! the head and ends at the first commit of the client, or where its id was found before; for a client with nothing
