@@ -1,6 +1,7 @@
 """A group of one thread: the pulled map, the cookie, the confirmed ids, what is pending, and whether it is closed."""
 
 from collections.abc import Callable
+from copy import copy
 from typing import Any, NamedTuple
 
 from wire import Refused, compact, is_int, order_of, quoted, read_response
@@ -41,6 +42,12 @@ class Group:
         self.closed = False
         # The view, kept, since a group of many lines is asked for it at each.
         self.view: Rows = {}
+
+    def as_it_is(self) -> "Group":
+        """A copy that later changes leave."""
+        group = copy(self)
+        group.pending = list(self.pending)
+        return group
 
     def replayed(self) -> Rows:
         rows = self.pulled

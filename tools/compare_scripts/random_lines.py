@@ -127,6 +127,10 @@ class Lines(Scripts):
     def pull(self, name: str) -> list[str]:
         return self.mutation(name) if self.has_few_pulls and self.chance(0.95) else super().pull(name)
 
+    def inside(self, name: str) -> list[str]:
+        """A call of any client, maybe of the one that reads."""
+        return super().inside(self.pick((name, *self.clients)))
+
     def asked(self) -> tuple[str, str]:
         """A mutator with its arguments: where rules are given mostly one of these."""
         if self.chance(0.0005):

@@ -102,6 +102,8 @@ ODD_LINES = (
     "A changes zz",
     "A empty x",
     "A closed x",
+    "A read x",
+    "A unread x",
 )
 
 
@@ -154,8 +156,20 @@ class Scripts:
     def calls(self, name: str) -> list[str]:
         if self.chance(0.03):
             return [self.pick(("", "# note"))]
-        kinds = (self.mutation, self.query, self.pull, self.other_end, self.poll)
-        [kind] = self.random.choices(kinds, (35, 30, 20, 5, 10))
+        kinds = (self.mutation, self.query, self.pull, self.other_end, self.poll, self.reading)
+        [kind] = self.random.choices(kinds, (35, 30, 20, 5, 10, 5))
+        return kind(name)
+
+    def reading(self, name: str) -> list[str]:
+        """A reading, mostly to its end: one that stays open keeps slots."""
+        lines = [f"{name} unread"] * self.chance(0.3) + [f"{name} read"]
+        for _ in range(self.pick((0, 1, 3, 8))):
+            lines += self.inside(name)
+        return lines + [f"{name} unread"] * self.chance(0.9)
+
+    def inside(self, name: str) -> list[str]:
+        """A call while a reading of this client is open."""
+        kind = self.pick((self.query, self.query, self.query, self.mutation, self.pull, self.poll))
         return kind(name)
 
     def mutation(self, name: str) -> list[str]:

@@ -10,7 +10,7 @@ from wire import ARGS_DEPTH, NotJson, Refused, compact, is_whole, read_json
 HEADER_WORDS = ("group", "profile", "schema", "slots", "client")
 # What `moment` and `slots` tell follows from how nodes are placed, which is no part of this model.
 UNTOLD = ("moment", "slots")
-BARE_COMMANDS = ("empty", "closed", "pending", "cookie", "refresh", *UNTOLD)
+BARE_COMMANDS = ("empty", "closed", "pending", "cookie", "refresh", "read", "unread", *UNTOLD)
 KEY_COMMANDS = ("get", "has", "pulled get")
 SCAN_COMMANDS = ("scan", "pulled scan")
 WATCH_COMMANDS = ("poll", "changes", "unwatch")
@@ -21,6 +21,9 @@ COMMANDS = (
     *WATCH_COMMANDS,
     *("push", "begin", "end", "mutate", "learn", "watch"),
 )
+# What an open reading answers; and what is done whether one is open or not.
+READ_COMMANDS = ("empty", "closed", "pending", "cookie", "push", *KEY_COMMANDS, *SCAN_COMMANDS)
+OTHER_COMMANDS = ("unread", "unwatch")
 # Commands of two words begin with one of these.
 FIRST_WORDS = ("pulled",)
 
@@ -222,8 +225,13 @@ class Client:
         self.last = 0
         self.tickets: dict[str, str] = {}
         self.watches: dict[str, tuple[Scan, Pairs | None]] = {}
+        self.reading: Group | None = None
 
     def reply(self, group: Group, command: str, words: Any) -> str:
+        if self.reading and command not in OTHER_COMMANDS:
+            if command not in READ_COMMANDS:
+                return "reads"
+            group = self.reading
         try:
             return str(getattr(self, command.replace(" ", "_"))(group, words))
         except Refused as refusal:
@@ -276,6 +284,14 @@ class Client:
     def refresh(self, group: Group, _words: None) -> str:
         self.last = group.last(self.id)
         return f"last {self.last}"
+
+    def read(self, group: Group, _words: None) -> str:
+        self.reading = group.as_it_is()
+        return "reading"
+
+    def unread(self, _group: Group, _words: None) -> str:
+        was, self.reading = self.reading, None
+        return "read" if was else "no reading"
 
     def learn(self, _group: Group, _words: None) -> str:
         return "learnt"

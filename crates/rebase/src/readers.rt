@@ -11,6 +11,7 @@ ghost use Rattle.group_history.specs.Record.{after};
 ghost use Rattle.group_history.specs.Spelling.{version_of};
 ghost use Rattle.head_word.specs.Books.{drawn, record_of};
 ghost use Rattle.head_word.specs.Laws.{moment};
+ghost use Rattle.head_word.specs.Marks.{known};
 ghost use Rattle.chunk_slots.specs.Seats.{IsIdle};
 ghost use Rattle.commit_graph.specs.Seats.{HasLooked};
 ghost use Rattle.push_body.specs.Bodies.{push_text};
@@ -26,6 +27,7 @@ use chunk_slots::{Arena, Slots};
 use commit_graph::StoreNodes;
 use group_history::{Means, Refusal};
 use group_steps::{SharedGroup, body_at};
+use head_word::Mark;
 use std::marker::Model;
 use transactions::ReadTx as CommitTx;
 
@@ -112,6 +114,14 @@ impl<M: Means, S: Slots<M>> Reader<M, S> {
     {
         let head = self.at.head();
         head.stamp()
+    }
+
+    /// What its client had seen at that moment: another client can learn it. Takes no memory.
+    pub fn mark(&self) -> Mark<M>
+        ensures { result ≡ known self.now.seat.mark.book self.now.seat.mark.log None }
+    {
+        let client = &self.client;
+        client.mark()
     }
 
     /// Ends the reading, takes the pin away, and gives the client back. Takes no memory.

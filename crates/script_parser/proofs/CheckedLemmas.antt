@@ -27,6 +27,7 @@ use Rattle.script_parser.specs.Commands.{push_line, skip_word, pulled_get, pulle
 use Rattle.script_parser.specs.Commands.{pulled_line, sent_line}
 use Rattle.script_parser.specs.Commands.{watch_word, watched_line}
 use Rattle.script_parser.specs.Commands.{bare_command, told_bare, bare_line, look_line, named_command, command_of}
+use Rattle.script_parser.specs.Commands.{reading_command}
 use Rattle.script_parser.specs.Commands.{with_line, said_by, command_at, command_line}
 use Rattle.script_parser.specs.Names.{changed_at, noted, number_made}
 use Rattle.script_parser.specs.Faults.{is_skipped, words_line, said_with, said_after, lines_of, said_in}
@@ -153,7 +154,7 @@ unfolding learn_line
 learn_line-sound c rest sound = search (rules, IfOk-if, place_of-within)
 
 bare_learns : (n : ℕ) (name : Bytes) → IfSome (bare_command name) (LearnsWithin n)
-unfolding bare_command
+unfolding bare_command reading_command
 bare_learns n name = search (rules, IfSome-if)
 
 told_bare-sound : (c : Context) (o : Option Command) (rest : Option Bytes) → Sound c

@@ -150,6 +150,13 @@ learn_line c rest =
     ∷ (is_some (place_of (text rest) c.clients), fault.UnknownName) ∷ [])
     (c, command.Learn (unwrap_or (place_of (text rest) c.clients) 0))
 
+-- those by which a reading begins and ends
+unfoldable pub reading_command : Bytes → Option Command
+reading_command name =
+    if same_text name (codes "read") then Some command.BeginRead
+    else if same_text name (codes "unread") then Some command.EndRead
+    else None
+
 -- the commands that take no words
 unfoldable pub bare_command : Bytes → Option Command
 bare_command name =
@@ -160,7 +167,7 @@ bare_command name =
     else if same_text name (codes "refresh") then Some command.Refresh
     else if same_text name (codes "moment") then Some command.Moment
     else if same_text name (codes "slots") then Some command.Slots
-    else None
+    else reading_command name
 
 -- such a command, where there is one
 abbrev pub told_bare : Context → Option Command → Option Bytes → Told

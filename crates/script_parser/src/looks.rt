@@ -1,7 +1,7 @@
 //! The commands that make no ticket or watch and need none.
 ghost use Rattle.std.specs.Prelude.{◌≡◌};
 ghost use Rattle.std.specs.Option.{option_copied};
-ghost use Rattle.script_parser.specs.Commands.{bare_command, skip_word};
+ghost use Rattle.script_parser.specs.Commands.{bare_command, reading_command, skip_word};
 ghost use Rattle.script_parser.specs.Inside.Parsing.{context_of};
 
 use crate::faults::{LineFault, ScriptFault};
@@ -224,6 +224,20 @@ fn bare_command(name: &str) -> Option<Command>
     }
     if name == "slots" {
         return Some(Command::Slots);
+    }
+    reading_command(name)
+}
+
+/// One that begins or ends a reading.
+#[tactic(auto, unfolding(crate::specs::Commands::reading_command))]
+fn reading_command(name: &str) -> Option<Command>
+    ensures { result ≡ reading_command name.now }
+{
+    if name == "read" {
+        return Some(Command::BeginRead);
+    }
+    if name == "unread" {
+        return Some(Command::EndRead);
     }
     None
 }

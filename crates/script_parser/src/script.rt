@@ -72,6 +72,10 @@ pub enum Command {
     Moment,
     /// Count the slots that are free.
     Slots,
+    /// Begin a reading: until it ends, queries are answered as of its moment.
+    BeginRead,
+    /// End it.
+    EndRead,
     /// Learn what another client has seen, the one at this place.
     Learn(usize),
     /// Watch a scan, and keep the watch under this number. Watches are numbered as tickets are, apart from them.

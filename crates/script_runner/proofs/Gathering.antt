@@ -4,6 +4,7 @@ use Rattle.std.proofs.Common.{refl, sym, ap, subst, ◌∙◌, length-append, ar
 use Rattle.std.proofs.lemmas.List.{append-nil, get_or-map, get_or-set_other, get_or-set_same}
 use Rattle.std.proofs.lemmas.List.{get_or_default, length-map, length-set}
 use Rattle.std.specs.List.{All}
+use Rattle.std.specs.Option.{option_or}
 use Rattle.std.specs.Prelude.{option_map}
 use mathlib.Core.List.{IsPrefix}
 use Rattle.group_history.specs.Meaning.{Meanings}
@@ -21,10 +22,11 @@ use Rattle.script_runner.specs.Commanding.{Learns, Player}
 use Rattle.script_runner.specs.Records.{IsIn, IsRecordOf}
 use Rattle.script_runner.specs.Sights.{sight_at}
 use Rattle.script_runner.specs.Inside.Players.{player_of, players_of}
-use Rattle.script_runner.specs.Inside.Records.{AreConfirmed, AreSeated, Covers, HasLearnt, IsSeated, IsSitting, log_at}
+use Rattle.script_runner.specs.Inside.Records.{AreConfirmed, AreSeated, Covers, HasLearnt, IsClientOf, IsManned}
+use Rattle.script_runner.specs.Inside.Records.{IsSeated, IsSitting, log_at}
 use Rattle.script_runner.specs.Inside.Records.{log_of}
 use Rattle.script_runner.specs.Inside.Turns.{AreOf, AreOfOneGroup}
-use Rattle.script_runner.proofs.Seated.{begins}
+use Rattle.script_runner.proofs.Seated.{begins, one_client}
 
 same_seat : (s : Seated) → IsSameSeat s s
 same_seat s = record {
@@ -61,7 +63,8 @@ module _ {M : Type 0} where
       × IsPrefix (log_at turn) (log_at new) × Covers new other
   heard old turn new other were sits learns =
       let o = sits.0 in
-      let by_sight = subst (λ x. Learns x turn.client.place new.client.place) (ap (option_map sight_of) sits.1) learns in
+      let by_sight = subst (λ x. Learns x turn.client.place new.client.place)
+      (ap (λ x. option_map sight_of (option_or x other.client.place.reading)) sits.1) learns in
       let l = subst (λ x. LearnsAt x (sight_of o) turn.client.place new.client.place) were.sits by_sight in
       let now : new.client.place.client ≡ Some l.next = ap (λ p. p.client) l.left in (
         record {
@@ -122,13 +125,13 @@ module _ {M : Type 0} where
       let all = subst (AreOf one.0) is one.1 in
       λ k d below. all (suc k) d (omega (below, arith)) ∙ sym (all 0 first (omega arith))
 
-  -- where clients sit, they do
-  pub sitting_of : (count commit : ℕ) (turns : List (Turn M)) → AreSeated count commit (players_of turns)
-      → All IsSitting turns
-  sitting_of count commit turns seated k d below =
+  -- places that have clients do
+  pub manned_of : (count commit : ℕ) (turns : List (Turn M)) → AreSeated count commit (players_of turns)
+      → All IsManned turns
+  manned_of count commit turns seated k d below =
       let at = get_or-map (λ t. player_of t.client) turns k d (player_of d.client) below in
       let s = seated k (player_of d.client) (omega (below, length-map turns (λ t. player_of t.client), arith)) in
-      (s.client, ap (λ (p : Player). p.place.client) (sym at) ∙ s.sits)
+      (s.client, subst (λ (p : Player). IsClientOf s.client p.place) at s.is)
 
 empty_of : {A : Type 0} (xs : List A) → length xs ≡ 0 → xs ≡ []
 empty_of [] none = refl
@@ -156,8 +159,8 @@ module _ {M : Type 0} (count commit : ℕ) where
       → IsSeated count commit number old.client.place → (c.seat.mark.seat ≡ Some number)
       × IsPrefix (opening count (opening_ref commit)) c.seat.mark.log
   the_client old number c is seated =
-      let whole : Some seated.client ≡ Some c = sym seated.sits ∙ is in
-      let same : seated.client ≡ c = cc whole in (
+      let same = one_client seated.client c old.client.place seated.is
+      (ap (λ o. option_or o old.client.place.reading) is) in (
         ap (λ x. x.seat.mark.seat) (sym same) ∙ seated.seat,
         subst (λ x. IsPrefix (opening count (opening_ref commit)) x.seat.mark.log) same seated.opened,
       )
@@ -173,7 +176,7 @@ module _ {M : Type 0} (count commit : ℕ) where
       → IsIn (log_at new) 0 (player_of old.client)
   first_in old new h seated = record {
     client = h.client;
-    sits = h.sat;
+    there = ap (λ o. option_or o old.client.place.reading) h.sat;
     seat = (the_client old 0 h.client h.sat seated).0;
     seen = subst (λ x. IsPrefix h.client.seat.mark.log (log_of x)) (sym h.sits) h.seat.later.seen;
     own = ap (λ x. own_of (Some 0) (log_of x)) h.sits ∙ own_next old new 0 h seated;
@@ -191,7 +194,7 @@ module _ {M : Type 0} (count commit : ℕ) where
       ap (λ s. own_of s h.client.seat.mark.log) seat in
       record {
         client = h.client;
-        sits = h.sat;
+        there = ap (λ o. option_or o old.client.place.reading) h.sat;
         seat = seat;
         seen = early;
         own = between (suc number) h.client.seat.mark.log book h.next.seat.mark.log early late

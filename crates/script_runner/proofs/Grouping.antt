@@ -1,12 +1,14 @@
 -- Clients whose lines are done one by one.
-use Rattle.std.proofs.Common.{◌≡◌, ◌<◌, ◌++◌, ℕ, List, Option, Some, map, length, slice_index_or, slice_set}
-use Rattle.std.proofs.Common.{sym, subst, ap, ◌∙◌}
+use Rattle.std.proofs.Common.{◌≡◌, ◌<◌, ◌++◌, ℕ, true, false, List, Option, Some, None, map, length, slice_index_or}
+use Rattle.std.proofs.Common.{refl, slice_set, sym, subst, ap, ◌∙◌}
+use Rattle.std.proofs.lemmas.Bool.{false≢true}
+use Rattle.std.specs.Prelude.{is_some}
 use Rattle.std.proofs.lemmas.List.{get_or-map, get_or-set_same, length-map, length-set, map-set}
 use Rattle.std.proofs.lemmas.Option.{slice_get-get_or, slice_get_within}
 use Rattle.group_history.specs.Map.{Bytes}
 use Rattle.group_history.specs.Meaning.{Meanings}
 use Rattle.head_word.specs.Marks.{Known}
-use Rattle.rebase.specs.Clients.{Grouped}
+use Rattle.rebase.specs.Clients.{ClientState, Grouped}
 use Rattle.client_desk.specs.Told.{Told}
 use Rattle.script_parser.specs.declared.script.Command.{Command}
 use Rattle.script_runner.specs.declared.client.ScriptClient.{ScriptClient}
@@ -14,7 +16,7 @@ use Rattle.script_runner.specs.declared.phase.Turn.{Turn}
 use Rattle.script_runner.specs.Answering.{IsToldAt}
 use Rattle.script_runner.specs.Commanding.{Learns, MayTell, Player}
 use Rattle.script_runner.specs.Printing.{line_text, told_text}
-use Rattle.script_runner.specs.Sights.{sight_at}
+use Rattle.script_runner.specs.Sights.{seen_behind, sight_at}
 use Rattle.script_runner.specs.Inside.Calls.{IsCalledAt}
 use Rattle.script_runner.specs.Inside.Players.{AreNewIn, player_of, players_of}
 use Rattle.script_runner.specs.Inside.Turns.{AreOf}
@@ -27,13 +29,24 @@ pub are_of : {M : Type 0} (means : Meanings) (group : Grouped) (count commit : �
 are_of means group count commit turns new k d below =
     of_group means group count commit k (player_of (slice_index_or turns k d).client) (new k d below)
 
+-- what was seen behind a line whose client had a reading open, or none
+pub seen_kept : (reading : Option ClientState) (seen now : Option Known) → is_some reading ≡ true
+    → seen ≡ seen_behind reading seen now
+seen_kept None seen now is = absurd (false≢true is)
+seen_kept (Some reader) seen now is = refl
+
+pub seen_anew : (reading : Option ClientState) (seen now : Option Known) → is_some reading ≡ false
+    → now ≡ seen_behind reading seen now
+seen_anew None seen now is = refl
+seen_anew (Some reader) seen now is = absurd (false≢true (sym is))
+
 -- a client at a place did a command, after it learnt what was seen
 pub called_at : {M : Type 0} (means : Meanings) (turns : List (Turn M)) (sights : List (Option Known))
     (seen : Option Known) (place : ℕ) (c : Command) (old new : Turn M) (mid : ScriptClient M) (t : Told)
     (now : Option Known) → place < length (players_of turns) → old ≡ slice_index_or turns place old
     → Learns seen old.client.place mid.place → mid.name ≡ old.client.name
     → MayTell means sights c mid.place t new.client.place → new.client.name ≡ mid.name
-    → now ≡ sight_at new.client.place
+    → now ≡ seen_behind mid.place.reading seen (sight_at new.client.place)
     → IsCalledAt means sights seen place c (players_of turns) t (players_of (slice_set turns place new)) now
 called_at {M} means turns sights seen place c old new mid t now below at learnt first may second sees =
     let player : Turn M → Player = λ t. player_of t.client in

@@ -1,7 +1,9 @@
 mod Turns
 mod Openings
+mod Reading
 mod Seated
 mod Gathering
+mod Closing
 mod Telling
 mod Grouping
 mod Sending

@@ -1,9 +1,12 @@
 -- A line beside which nobody changes the group is told what the group of one thread replies.
-use Rattle.std.proofs.Common.{◌≡◌, ℕ, List, Option, Some, None, length, sym, ap, subst, ◌∙◌}
-use Rattle.std.proofs.lemmas.Option.{get_or_from_slice_get, slice_get_within}
+use Rattle.std.proofs.Common.{◌≡◌, ℕ, inl, inr, List, Option, Some, None, sym, ap, subst, ◌∙◌}
+use Rattle.std.specs.Option.{option_or}
+use Rattle.std.specs.Prelude.{option_map}
+use Rattle.group_history.specs.declared.changes.Change.{Change}
 use Rattle.group_history.specs.Map.{Bytes}
 use Rattle.group_history.specs.Meaning.{Meanings}
 use Rattle.group_history.specs.Record.{after}
+use Rattle.group_history.specs.State.{State}
 use Rattle.head_word.specs.Marks.{Known}
 use Rattle.rebase.specs.Calls.{caller_of}
 use Rattle.rebase.specs.Clients.{ClientState}
@@ -17,11 +20,13 @@ use Rattle.script_runner.specs.Answering.{IsToldAt, moment_seen, record_seen}
 use Rattle.script_runner.specs.Inside.Exact.{IsExactAt}
 use Rattle.script_runner.specs.Commanding.{Learns, MayTell, Player}
 use Rattle.script_runner.specs.Settling.{AreSteady, IsWhole}
-use Rattle.script_runner.specs.Inside.Records.{IsSeated}
-use Rattle.script_runner.specs.Plain.{IsDone, IsPlain, plain}
-use Rattle.script_runner.specs.Sights.{sight_at}
+use Rattle.script_runner.specs.Inside.Records.{IsClientOf}
+use Rattle.script_runner.specs.Plain.{IsDone, IsPlain, plain, plain_sitting, reading_at, reading_behind, reading_of}
+use Rattle.script_runner.specs.Sights.{seen_behind, sight_at}
 use Rattle.script_runner.proofs.Plainly.{plainly}
-use Rattle.script_runner.proofs.Steady.{caught_up, told_exact}
+use Rattle.script_runner.proofs.Reading.{has_read, learns_none}
+use Rattle.script_runner.proofs.Seated.{caught_up}
+use Rattle.script_runner.proofs.Steady.{exact_sitting, seated}
 
 -- a client that learns stays the same caller, with what it keeps
 pub record Keeps (place mid : PlaceState) (c m : ClientState) : Type 0 where
@@ -49,36 +54,79 @@ keeps (Some other) place mid c m sat sits h =
       watches = ap (λ (q : PlaceState). q.watches) l.left;
     }
 
--- So a line is, that is exact.
-pub plain_line : (means : Meanings) (sights : List (Option Known)) (x : Command) (seen : Option Known)
-    (place mid next : PlaceState) (c : ClientState) (t : Told) → place.client ≡ Some c → IsCalm place
-    → Learns seen place mid → MayTell means sights x mid t next → IsExactAt means seen mid next
-    → IsPlain means x place t (record_seen seen) (sight_at next)
-plain_line means sights x seen place mid next c t sat calm learnt may exact =
-    let k = caught_up c seen place mid sat calm learnt in
-    let is = plainly means seen exact.old exact.new mid next t exact.sat k.calm exact.sits exact.exact sights x may in
-    let kept = keeps seen place mid c exact.old sat exact.sat learnt in
-    let s = after (record_seen seen) in
-    let n = moment_seen (sight_at next) in
-    let old = record_seen seen in
-    let new = record_seen (sight_at next) in
-    record {
-      client = c;
-      sits = sat;
-      done = subst (λ ws. IsDone (plain means s (caller_of c) place.tickets ws n x) t old new) kept.watches
-          (subst (λ ts. IsDone (plain means s (caller_of c) ts mid.watches n x) t old new) kept.tickets
-          (subst (λ o. IsDone (plain means s o mid.tickets mid.watches n x) t old new) kept.caller is));
-    }
+module _ (means : Meanings) (sights : List (Option Known)) (x : Command) (seen : Option Known)
+    (place mid next : PlaceState) (c : ClientState) (t : Told) (learnt : Learns seen place mid) where
+  abbrev old : List Change
+  old = record_seen seen
+
+  abbrev s : State
+  s = after old
+
+  abbrev new : List Change
+  new = record_seen (sight_at next)
+
+  abbrev n : ℕ
+  n = moment_seen (sight_at next)
+
+  -- So is the line of a client that sits at its place, where it is exact.
+  pub plain_line : place.client ≡ Some c → IsCalm place → MayTell means sights x mid t next
+      → IsExactAt means seen mid next → IsPlain means x place next t old (sight_at next)
+  plain_line sat calm may exact =
+      let k = caught_up c seen place mid sat calm learnt in
+      let is = plainly means seen exact.old exact.new mid next t exact.sat k.calm exact.there exact.exact sights x may in
+      let kept = keeps seen place mid c exact.old sat exact.sat learnt in
+      let none : reading_at place ≡ None = ap (option_map reading_of) calm.1 in
+      record {
+        client = c;
+        there = ap (λ o. option_or o place.reading) sat;
+        done = subst (λ o. IsDone (plain means s (caller_of c) place.tickets place.watches n o x) t old new) (sym none)
+            (subst (λ ws. IsDone (plain_sitting means s (caller_of c) place.tickets ws n x) t old new) kept.watches
+            (subst (λ ts. IsDone (plain_sitting means s (caller_of c) ts mid.watches n x) t old new) kept.tickets
+            (subst (λ o. IsDone (plain_sitting means s o mid.tickets mid.watches n x) t old new) kept.caller is.0)));
+        reads = subst (λ o. reading_at next ≡ reading_behind s n o x t.outcome) (sym none) is.1;
+      }
+
+  -- and that of one that has a reading open
+  pub plain_read : IsClientOf c place → place.client ≡ None → place.reading ≡ Some c → MayTell means sights x mid t next
+      → IsPlain means x place next t old seen
+  plain_read is none is_open may =
+      let h = has_read means c place next t none is_open is.calm old sights x
+      (subst (λ p. MayTell means sights x p t next) (learns_none seen place mid none learnt) may) in
+      let some : reading_at place ≡ Some (reading_of c) = ap (option_map reading_of) is_open in
+      record {
+        client = c;
+        there = ap (λ o. option_or o place.reading) none ∙ is_open;
+        done = subst
+            (λ o. IsDone (plain means s (caller_of c) place.tickets place.watches (moment_seen seen) o x) t old old)
+            (sym some) h.done;
+        reads = subst (λ o. reading_at next ≡ reading_behind s (moment_seen seen) o x t.outcome) (sym some)
+            (h.reads s (moment_seen seen));
+      }
 
 -- and so is each line of clients that made all moves
 pub told_plain : (means : Meanings) (sights : List (Option Known)) (seen : Option Known) (place : ℕ) (l : ℕ × Command)
     (before : List Player) (text : Bytes) (after : List Player) (now : Option Known)
     (told : IsToldAt means sights seen place l before text after now) → AreSteady before seen → IsWhole after now
-    → IsPlain means l.1 told.client.place told.may.t (record_seen seen) now
+    → IsPlain means l.1 told.client.place told.next.place told.may.t (record_seen seen) now
 told_plain means sights seen place l before text after now h was all =
-    let below = slice_get_within before place h.client h.at in
-    let seated = subst (λ (p : Player). IsSeated (length before) was.commit place p.place)
-    (get_or_from_slice_get before place h.client h.client h.at) (was.seated place h.client below) in
-    subst (λ o. IsPlain means l.1 h.client.place h.may.t (record_seen seen) o) (sym h.sees)
-    (plain_line means sights l.1 seen h.client.place h.mid h.next.place seated.client h.may.t seated.sits seated.calm
-    h.learnt h.may.may (told_exact means sights seen place l before text after now h was all))
+    let t = h.may.t in
+    let home = seated means sights seen place l.1 before h.client h.next h.mid t h.at h.learnt h.may.may was in
+    elim home.is.at [
+      | inl sits ↦
+          let calm : IsCalm h.client.place = (home.is.calm, sits.1) in
+          let k = caught_up home.client seen h.client.place h.mid sits.0 calm h.learnt in
+          let sees : now ≡ sight_at h.next.place =
+          h.sees ∙ ap (λ o. seen_behind o seen (sight_at h.next.place)) k.calm.1 in
+          subst (λ o. IsPlain means l.1 h.client.place h.next.place t (record_seen seen) o) (sym sees)
+          (plain_line means sights l.1 seen h.client.place h.mid h.next.place home.client t h.learnt sits.0 calm
+          h.may.may
+          (exact_sitting means sights seen place l.1 before h.client h.next h.mid t h.at h.learnt h.may.may was now sits.0
+          calm sees (subst (λ ps. IsWhole ps now) h.left all)))
+      | inr reads ↦
+          let is_open : h.mid.reading ≡ Some home.client =
+          ap (λ (p : PlaceState). p.reading) (learns_none seen h.client.place h.mid reads.0 h.learnt) ∙ reads.1 in
+          let sees : now ≡ seen = h.sees ∙ ap (λ o. seen_behind o seen (sight_at h.next.place)) is_open in
+          subst (λ o. IsPlain means l.1 h.client.place h.next.place t (record_seen seen) o) (sym sees)
+          (plain_read means sights l.1 seen h.client.place h.mid h.next.place home.client t h.learnt home.is reads.0
+          reads.1 h.may.may)
+    ]

@@ -4,6 +4,7 @@ use Rattle.std.proofs.Common.{Ok, Err, refl, sym, ap, subst, ◌∙◌, filter}
 use Rattle.std.proofs.lemmas.List.{append-nil}
 use Rattle.std.specs.FinMap as finite
 use Rattle.std.specs.Prelude.{drop, option_map}
+use Rattle.std.specs.Option.{option_or}
 use Rattle.group_history.specs.declared.changes.Change.{Change}
 use Rattle.group_history.specs.declared.scans.Scan.{Scan}
 use Rattle.group_history.specs.declared.refusals.Refusal.{Refusal}
@@ -39,7 +40,8 @@ use Rattle.client_desk.specs.declared.calls.Keep.TheVariants.{At as AtNumber}
 use Rattle.client_desk.specs.declared.faults.Fault.{Fault}
 use Rattle.client_desk.specs.declared.faults.Fault.TheVariants as fault
 use Rattle.client_desk.specs.declared.outcomes.Outcome.TheVariants.{Done, Faulty, Number}
-use Rattle.client_desk.specs.Answers.{AsksAs, At, Begins, ByClient, CountsBy, CountsFree, IsBegun, Lacks, Polls}
+use Rattle.client_desk.specs.Answers.{AsksAs, At, Begins, ByClient, CountsBy, CountsFree, EndsReading, IsBegun}
+use Rattle.client_desk.specs.Answers.{Lacks, Polls, read_by}
 use Rattle.client_desk.specs.Answers.{PollsChanges, Reads, Refreshes, TellsChanges, TellsMoment, TellsMomentAs}
 use Rattle.client_desk.specs.Answers.{Asks as Queries}
 use Rattle.client_desk.specs.Answers.{Rule, Unwatches, Watches, absent, made_room, tries}
@@ -47,7 +49,8 @@ use Rattle.client_desk.specs.Inside.Sitting.{IsCalm}
 use Rattle.client_desk.specs.Calls.{AnswersCalm, MayAnswerAt}
 use Rattle.client_desk.specs.Kept.{IsNumberFor, kept_at}
 use Rattle.client_desk.specs.Learning.{LearnsAt, sight_of}
-use Rattle.client_desk.specs.Places.{PlaceState}
+use Rattle.client_desk.specs.Places.{PlaceState, client_at}
+use Rattle.client_desk.proofs.Remaining.{IsSitting, remains}
 use Rattle.client_desk.specs.Told.{Told, bytes_told, cookie_told, id_told, is_told, pending_told}
 use Rattle.client_desk.specs.Told.{polled_told, replied_told, rows_told, tells, told}
 use Rattle.client_desk.specs.Told.{told_alone, value_told}
@@ -59,37 +62,53 @@ use Rattle.script_parser.specs.declared.script.Query.{Query}
 use Rattle.script_parser.specs.declared.script.Query.TheVariants as query
 use Rattle.script_runner.specs.Answering.{moment_seen, record_seen}
 use Rattle.script_runner.specs.Inside.Exact.{IsExact}
-use Rattle.script_runner.specs.Commanding.{Asks, AsksQuery, Learns, MayTell}
+use Rattle.script_runner.specs.Commanding.{Asks, AsksQuery, Learns, MayTell, learnt_by}
 use Rattle.script_runner.specs.Plain.{IsDone, Plain, changed, counted, ended, if_kept, looked, mutated}
-use Rattle.script_runner.specs.Plain.{plain, query_told}
+use Rattle.script_runner.specs.Plain.{plain_sitting, query_told, reading_at, reading_behind, reading_of}
 use Rattle.script_runner.specs.Sights.{sight_at}
+use Rattle.script_runner.proofs.Reading.{missed_wants}
+use Rattle.script_runner.proofs.Seated.{begins_reading, caught_up, leaves_none, sits_none}
 use Rattle.script_runner.proofs.Replying.{ended_means, ended_says, id_means, id_says, replies, says_right, tells_right}
 
 module _ (means : Meanings) (seen : Option Known) (c d : ClientState) (b a : PlaceState) (t : Told)
-    (sat : b.client ≡ Some c) (calm : IsCalm b) (sits : a.client ≡ Some d)
+    (sat : b.client ≡ Some c) (calm : IsCalm b) (there : client_at a ≡ Some d)
     (exact : IsExact means seen c.seat.mark d.seat.mark) where
   abbrev now : State
   now = after (record_seen seen)
 
   abbrev the : Command → Plain
-  the x = plain means now (caller_of c) b.tickets b.watches (moment_seen (sight_at a)) x
+  the x = plain_sitting means now (caller_of c) b.tickets b.watches (moment_seen (sight_at a)) x
 
   abbrev Is : Plain → Type 0
   Is is = IsDone is t (record_seen seen) (record_seen (sight_at a))
 
-  -- what the client that sits there at the end has seen
-  seen_by : (next : ClientState) → a.client ≡ Some next → record_seen (sight_at a) ≡ record_of next.seat.mark.log
-  seen_by next is = ap (λ o. record_seen (option_map sight_of o)) is
+  -- the client that sits there at the end is the one of the place
+  at_end : (next : ClientState) → a.client ≡ Some next → client_at a ≡ Some next
+  at_end next is = ap (λ o. option_or o a.reading) is
 
-  exact_by : (next : ClientState) → a.client ≡ Some next → IsExact means seen c.seat.mark next.seat.mark
-  exact_by next is =
-      let whole : Some d ≡ Some next = sym sits ∙ is in
+  -- what the client of the place has seen at the end
+  seen_at : (next : ClientState) → client_at a ≡ Some next → record_seen (sight_at a) ≡ record_of next.seat.mark.log
+  seen_at next is = ap (λ o. record_seen (option_map sight_of o)) is
+
+  exact_at : (next : ClientState) → client_at a ≡ Some next → IsExact means seen c.seat.mark next.seat.mark
+  exact_at next is =
+      let whole : Some d ≡ Some next = sym there ∙ is in
       let same : d ≡ next = cc whole in
       subst (λ (x : ClientState). IsExact means seen c.seat.mark x.seat.mark) same exact
 
+  still_at : (next : ClientState) → client_at a ≡ Some next → own next.seat.mark ≡ own c.seat.mark
+      → record_seen (sight_at a) ≡ record_seen seen
+  still_at next is same = seen_at next is ∙ (exact_at next is).none (ap (filter is_move) same)
+
+  seen_by : (next : ClientState) → a.client ≡ Some next → record_seen (sight_at a) ≡ record_of next.seat.mark.log
+  seen_by next is = seen_at next (at_end next is)
+
+  exact_by : (next : ClientState) → a.client ≡ Some next → IsExact means seen c.seat.mark next.seat.mark
+  exact_by next is = exact_at next (at_end next is)
+
   still : (next : ClientState) → a.client ≡ Some next → own next.seat.mark ≡ own c.seat.mark
       → record_seen (sight_at a) ≡ record_seen seen
-  still next is same = seen_by next is ∙ (exact_by next is).none (ap (filter is_move) same)
+  still next is = still_at next (at_end next is)
 
   -- this is told, and nothing was changed
   only_told : (says : Told) → t ≡ says → record_seen (sight_at a) ≡ record_seen seen → Is (looked says)
@@ -280,7 +299,7 @@ module _ (means : Meanings) (seen : Option Known) (c d : ClientState) (b a : Pla
       let m = by_client (TellsMoment means) (subst (λ o. TellsMomentAs means o b t a) calm.1 done) in
       let there : a.client ≡ Some m.next = ap (λ (q : PlaceState). q.client) m.left in
       let seen_at : moment_seen (sight_at a) ≡ moment m.next.seat.mark.log =
-      ap (λ o. moment_seen (option_map sight_of o)) there in
+      ap (λ o. moment_seen (option_map sight_of o)) (at_end m.next there) in
       only_told (id_told (moment_seen (sight_at a))) (m.told ∙ ap id_told (sym seen_at))
       (still m.next there m.looked.own)) h
   by_moment other asked h = absurd asked
@@ -359,18 +378,108 @@ module _ (means : Meanings) (seen : Option Known) (c d : ClientState) (b a : Pla
       let l = subst (λ o. LearnsAt o other b a) sat h in
       still l.next (ap (λ (q : PlaceState). q.client) l.left) l.looked.own
 
+  -- what is read then, where nothing was and no reading began
+  abbrev IsRead : Command → Type 0
+  IsRead x = reading_at a ≡ reading_behind now (moment_seen (sight_at a)) None x t.outcome
+
+  by_begin_read : (made : Call) → Asks command.BeginRead made → MayAnswerWaiting means made b t a
+      → Is (the command.BeginRead) × IsRead command.BeginRead
+  by_begin_read call.BeginRead asked h = elim (begins_reading means c b t a sat calm h) [
+    | inl r ↦
+        let there : client_at a ≡ Some r.reader = ap client_at r.left in
+        let state : read_by r.reader ≡ now =
+        ap after ((exact_at r.reader there).point None r.reader.seat.mark.log r.point) in
+        let number : moment r.reader.seat.mark.log ≡ moment_seen (sight_at a) =
+        sym (ap (λ o. moment_seen (option_map sight_of o)) there) in (
+          only_told (told_alone Done) r.told (still_at r.reader there r.reads.looked.own),
+          ap (λ (p : PlaceState). reading_at p) r.left
+              ∙ ap (λ s. Some (record { state = s; number = moment r.reader.seat.mark.log })) state
+              ∙ ap (λ n. Some (record { state = now; number = n })) number
+              ∙ sym (ap (λ (w : Told). reading_behind now (moment_seen (sight_at a)) None command.BeginRead w.outcome)
+              r.told),
+        )
+    | inr l ↦ (
+      inr (
+        (l.refusal, missed_wants l.refusal (inr l.missed), l.told),
+        still l.next (ap (λ (p : PlaceState). p.client) l.left) l.stays.0.looked.own,
+      ),
+      ap (λ (p : PlaceState). reading_at p) l.left ∙ ap (option_map reading_of) calm.1
+          ∙ sym (ap (λ (w : Told). reading_behind now (moment_seen (sight_at a)) None command.BeginRead w.outcome)
+          l.told),
+    )
+  ]
+  by_begin_read other asked h = absurd asked
+
+  by_end_read : (made : Call) → Asks command.EndRead made → MayAnswerWaiting means made b t a
+      → Is (the command.EndRead) × IsRead command.EndRead
+  by_end_read call.EndRead asked h =
+      elim (subst (λ x. MayAnswerAt (λ name. true) means call.EndRead x b t a) calm.0 h) [
+        | inl dry ↦ absurd dry.0
+        | inr done ↦
+            let e = subst (λ o. At o fault.NotRead EndsReading b t a) calm.1 done in (
+              only_told (told_alone (Faulty fault.NotRead)) e.0
+                  (still c (ap (λ (q : PlaceState). q.client) e.1 ∙ sat) refl),
+              ap (λ (p : PlaceState). reading_at p) e.1 ∙ ap (option_map reading_of) calm.1
+                  ∙ sym (ap (λ (w : Told). reading_behind now (moment_seen (sight_at a)) None command.EndRead w.outcome)
+                  e.0),
+            )
+      ]
+  by_end_read other asked h = absurd asked
+
+  -- the client of another call sits at its place still
+  sits_still : (made : Call) → IsSitting made → MayAnswerWaiting means made b t a → reading_at a ≡ None
+  sits_still made is h = ap (option_map reading_of) (remains means c b a t sat calm made is h).2.1
+
+  makes_still : (x : Command) → (Asks x call.BeginRead → ⊥) → (made : Call) → Asks x made
+      → MayAnswerWaiting means made b t a → reading_at a ≡ None
+  makes_still x none (call.Sit id) asked h = absurd (sits_none x id asked)
+  makes_still x none call.Leave asked h = absurd (leaves_none x asked)
+  makes_still x none call.BeginRead asked h = absurd (none asked)
+  makes_still x none other asked h = sits_still other tt h
+
+  learns_still : (sight : Option Known) → Learns sight b a → reading_at a ≡ None
+  learns_still sight h = ap (option_map reading_of) (caught_up c sight b a sat calm h).calm.1
+
+  no_query : (q : Query) → AsksQuery q call.BeginRead → ⊥
+  no_query (query.Get key) h = h
+  no_query (query.Has key) h = h
+  no_query (query.Scan scan) h = h
+  no_query query.Empty h = h
+  no_query query.Closed h = h
+  no_query query.Pending h = h
+  no_query query.Cookie h = h
+  no_query (query.Push n) h = h
+  no_query (query.PulledGet key) h = h
+  no_query (query.PulledScan scan) h = h
+
   -- any command
-  pub plainly : (sights : List (Option Known)) (x : Command) → MayTell means sights x b t a → Is (the x)
-  plainly sights (command.Query q) h = by_query q h.made h.asked h.may
-  plainly sights (command.Begin n) h = by_begin n h.made h.asked h.may
-  plainly sights (command.End n body) h = by_end n body h.made h.asked h.may
-  plainly sights (command.Mutate m) h = by_mutation m h.made h.asked h.may
-  plainly sights command.Refresh h = by_refresh h.made h.asked h.may
-  plainly sights command.Moment h = by_moment h.made h.asked h.may
-  plainly sights command.Slots h = by_slots h.made h.asked h.may
-  plainly sights (command.Learn other) h =
-      only_told (told_alone Done) h.told (by_learning (kept_at sights other) h.learnt)
-  plainly sights (command.Watch n scan) h = by_watch n scan h.made h.asked h.may
-  plainly sights (command.Poll n) h = by_poll n h.made h.asked h.may
-  plainly sights (command.Changes n) h = by_changes n h.made h.asked h.may
-  plainly sights (command.Unwatch n) h = by_unwatch n h.made h.asked h.may
+  pub plainly : (sights : List (Option Known)) (x : Command) → MayTell means sights x b t a → Is (the x) × IsRead x
+  plainly sights (command.Query q) h =
+      (by_query q h.made h.asked h.may, makes_still (command.Query q) (no_query q) h.made h.asked h.may)
+  plainly sights (command.Begin n) h =
+      (by_begin n h.made h.asked h.may, makes_still (command.Begin n) (λ e. e) h.made h.asked h.may)
+  plainly sights (command.End n body) h =
+      (by_end n body h.made h.asked h.may, makes_still (command.End n body) (λ e. e) h.made h.asked h.may)
+  plainly sights (command.Mutate m) h =
+      (by_mutation m h.made h.asked h.may, makes_still (command.Mutate m) (λ e. e) h.made h.asked h.may)
+  plainly sights command.Refresh h =
+      (by_refresh h.made h.asked h.may, makes_still command.Refresh (λ e. e) h.made h.asked h.may)
+  plainly sights command.Moment h =
+      (by_moment h.made h.asked h.may, makes_still command.Moment (λ e. e) h.made h.asked h.may)
+  plainly sights command.Slots h =
+      (by_slots h.made h.asked h.may, makes_still command.Slots (λ e. e) h.made h.asked h.may)
+  plainly sights command.BeginRead h = by_begin_read h.made h.asked h.may
+  plainly sights command.EndRead h = by_end_read h.made h.asked h.may
+  plainly sights (command.Learn other) h = (
+    only_told (told_alone Done) (h.told ∙ ap (λ o. told_alone (learnt_by o)) calm.1)
+        (by_learning (kept_at sights other) h.learnt),
+    learns_still (kept_at sights other) h.learnt,
+  )
+  plainly sights (command.Watch n scan) h =
+      (by_watch n scan h.made h.asked h.may, makes_still (command.Watch n scan) (λ e. e) h.made h.asked h.may)
+  plainly sights (command.Poll n) h =
+      (by_poll n h.made h.asked h.may, makes_still (command.Poll n) (λ e. e) h.made h.asked h.may)
+  plainly sights (command.Changes n) h =
+      (by_changes n h.made h.asked h.may, makes_still (command.Changes n) (λ e. e) h.made h.asked h.may)
+  plainly sights (command.Unwatch n) h =
+      (by_unwatch n h.made h.asked h.may, makes_still (command.Unwatch n) (λ e. e) h.made h.asked h.may)

@@ -2,7 +2,7 @@
 use Rattle.std.proofs.Common.{◌≡◌, ◌<◌, ◌+◌, ◌-◌, ◌≤◌, ◌++◌, ℕ, zero, suc, inl, inr, List, [], ◌∷◌, Option, Some, None}
 use Rattle.std.proofs.Common.{length, map, filter, refl, sym, ap, subst, ◌∙◌, arith, slice_index_or, slice_set}
 use Rattle.std.proofs.lemmas.Bool.Decides.{eqb_tells}
-use Rattle.std.proofs.lemmas.List.{append-nil, get_or-map, get_or-set_other, get_or-set_same, length-map, length-set}
+use Rattle.std.proofs.lemmas.List.{get_or-map, get_or-set_other, get_or-set_same, length-map, length-set}
 use Rattle.std.proofs.lemmas.List.Sums.{sum-map, sum_by-cons, sum_by-set}
 use Rattle.std.proofs.lemmas.Option.{get_or_from_slice_get, slice_get-get_or, slice_get_within}
 use Rattle.std.specs.List.{sum, sum_by}
@@ -12,27 +12,23 @@ use Rattle.group_history.specs.Map.{Bytes}
 use Rattle.group_history.specs.Meaning.{Meanings}
 use Rattle.head_word.specs.declared.entry.Entry.{Entry}
 use Rattle.head_word.specs.Books.{opening, opening_ref, record_of, with_change}
-use Rattle.head_word.specs.Marks.{Known, own}
+use Rattle.head_word.specs.Marks.{Known, known, own}
 use Rattle.head_word.specs.Tallies.{mine}
 use Rattle.answered.specs.Answered.{is_move, own_moves}
-use Rattle.commit_graph.specs.Seats.{IsSameSeat}
 use Rattle.push_body.specs.declared.identities.Identity.{Identity}
 use Rattle.rebase.specs.Clients.{ClientState}
-use Rattle.client_desk.specs.Kept.{kept_at}
-use Rattle.client_desk.specs.Learning.{LearnsAt, sight_of}
+use Rattle.client_desk.specs.Learning.{sight_of}
 use Rattle.client_desk.specs.Inside.Sitting.{IsCalm}
-use Rattle.client_desk.specs.Places.{PlaceState}
+use Rattle.client_desk.specs.Places.{PlaceState, client_at}
 use Rattle.client_desk.specs.Told.{Told}
-use Rattle.client_desk.proofs.Remaining.{remains}
 use Rattle.script_parser.specs.declared.script.Command.{Command}
-use Rattle.script_parser.specs.declared.script.Command.TheVariants as command
 use Rattle.script_runner.specs.declared.phase.Turn.{Turn}
-use Rattle.script_runner.specs.Answering.{IsToldAt, record_seen}
+use Rattle.script_runner.specs.Answering.{record_seen}
 use Rattle.script_runner.specs.Commanding.{Learns, MayTell, Player}
 use Rattle.script_runner.specs.Records.{IsRecordOf}
 use Rattle.script_runner.specs.Runs.{AreNew, IsNew, seats_for}
 use Rattle.script_runner.specs.Settling.{AreSteady, IsWhole, StaySteady, moves_seen, own_at, own_count}
-use Rattle.script_runner.specs.Sights.{sight_at}
+use Rattle.script_runner.specs.Sights.{seen_behind, sight_at}
 use Rattle.script_runner.specs.Inside.Calls.{IsCalledAt}
 use Rattle.script_runner.specs.Inside.Exact.{IsExact, IsExactAt}
 use Rattle.script_runner.specs.Inside.Players.{player_of, players_of}
@@ -40,7 +36,8 @@ use Rattle.script_runner.specs.Inside.Records.{AreSeated, IsSeated}
 use Rattle.script_runner.proofs.Gathering.{still_same}
 use Rattle.script_runner.proofs.Moves.{at_point, counted_book, left_alone, moves, moves_grow, moves_opened, none_opened}
 use Rattle.script_runner.proofs.Moves.{others_grow, own_within, record_same}
-use Rattle.script_runner.proofs.Seated.{asks_sitting, begins, begun, calm_with, later}
+use Rattle.script_runner.proofs.Reading.{HasRead, has_read, learns_none}
+use Rattle.script_runner.proofs.Seated.{GoesOn, HasCaughtUp, begins, begun, caught_up, client_there, later, sits_on}
 
 -- ---- at the beginning
 
@@ -63,7 +60,7 @@ none_own : (means : Meanings) (group : _) (count commit number : ℕ) (p : Playe
 none_own means group count commit number p new =
     let none : own new.sat.client.seat.mark ≡ [] =
     new.sat.looked.own ∙ ap own new.mark ∙ none_opened number count (opening_ref commit) in
-    ap (λ (q : PlaceState). own_count q.client) new.sat.left ∙ ap (λ es. length (filter is_move es)) none
+    ap (λ (q : PlaceState). own_count (client_at q)) new.sat.left ∙ ap (λ es. length (filter is_move es)) none
 
 pub steady_new : (means : Meanings) (identity : Identity) (lines : List (Bytes × Bytes)) (players : List Player)
     → AreNew means identity lines players → AreSteady players None
@@ -83,52 +80,6 @@ steady_new means identity lines players new =
     }
 
 -- ---- a line
-
--- The client learnt what the lines before have seen: it is on its seat still, made no move, and the place is calm.
-pub record HasCaughtUp (c : ClientState) (seen : Option Known) (after : PlaceState) : Type 0 where
-  pub client : ClientState
-  pub sits : after.client ≡ Some client
-  pub calm : IsCalm after
-  pub seat : IsSameSeat c.seat client.seat
-  pub own : own client.seat.mark ≡ own c.seat.mark
-  pub sees : (known : Known) → seen ≡ Some known → IsPrefix known.log client.seat.mark.log
-
-pub caught_up : (c : ClientState) (seen : Option Known) (before after : PlaceState) → before.client ≡ Some c
-    → IsCalm before → Learns seen before after → HasCaughtUp c seen after
-caught_up c None before after sits calm h = record {
-  client = c;
-  sits = ap (λ (p : PlaceState). p.client) h ∙ sits;
-  calm = subst IsCalm (sym h) calm;
-  seat = record {
-    table = refl;
-    later = record { book = refl; seat = refl; seen = ([], append-nil c.seat.mark.log) };
-  };
-  own = refl;
-  sees = λ known is. absurd (cc is);
-}
-caught_up c (Some seen) before after sits calm h =
-    let l = subst (λ o. LearnsAt o seen before after) sits h in
-    record {
-      client = l.next;
-      sits = ap (λ (p : PlaceState). p.client) l.left;
-      calm = calm_with before after l.next l.left calm;
-      seat = l.looked.seat;
-      own = l.looked.own;
-      sees = λ known is.
-          let same : seen ≡ known = cc is in
-          subst (λ (m : Known). IsPrefix m.log l.next.seat.mark.log) same l.seen;
-    }
-
--- the client that did a command sits there still, on its seat
-sits_on : (means : Meanings) (sights : List (Option Known)) (c : Command) (m : ClientState) (before : PlaceState)
-    (t : Told) (after : PlaceState) → before.client ≡ Some m → IsCalm before
-    → MayTell means sights c before t after
-    → (d : ClientState) × (after.client ≡ Some d) × IsCalm after × IsSameSeat m.seat d.seat
-sits_on means sights (command.Learn place) m before t after sits calm h =
-    let k = caught_up m (kept_at sights place) before after sits calm h.learnt in (k.client, k.sits, k.calm, k.seat)
-sits_on means sights other m before t after sits calm h =
-    let r = remains means m before after t sits calm h.made (asks_sitting other h.made h.asked) h.may in
-    (r.0, r.1, r.2, r.4)
 
 -- the client at the place has seen all moves that the lines before have seen
 sees_moves : (seen : Option Known) (log : List Entry) (count commit : ℕ)
@@ -163,99 +114,206 @@ exact_call means seen old new seat pre alone before = record {
 }
 
 -- what a line did of that is known of it
-record HasGone (means : Meanings) (seen : Option Known) (before : List Player) (mid next : PlaceState)
-    (after : List Player) (now : Option Known) : Type 0 where
+record HasGone (seen : Option Known) (before after : List Player) (now : Option Known) : Type 0 where
   steady : AreSteady after now
   whole : IsWhole after now → IsWhole before seen
-  exact : IsWhole after now → IsExactAt means seen mid next
 
-went : (means : Meanings) (sights : List (Option Known)) (seen : Option Known) (place : ℕ) (c : Command)
-    (before : List Player) (client next : Player) (mid : PlaceState) (t : Told) → slice_get before place ≡ Some client
-    → Learns seen client.place mid → MayTell means sights c mid t next.place → AreSteady before seen
-    → HasGone means seen before mid next.place (slice_set before place next) (sight_at next.place)
-went means sights seen place c before client next mid t at learnt may was =
-    let n : ℕ = length before in
-    let below = slice_get_within before place client at in
-    let here : slice_index_or before place client ≡ client = get_or_from_slice_get before place client client at in
-    let seated : IsSeated n was.commit place client.place =
-    subst (λ (p : Player). IsSeated n was.commit place p.place) here (was.seated place client below) in
-    let k = caught_up seated.client seen client.place mid seated.sits seated.calm learnt in
-    let d = sits_on means sights c k.client mid t next.place k.sits k.calm may in
+-- the clients are on their seats still where one of them is
+still_seated : (n commit place : ℕ) (before : List Player) (next : Player) → n ≡ length before → place < length before
+    → AreSeated n commit before → IsSeated n commit place next.place
+    → AreSeated (length (slice_set before place next)) commit (slice_set before place next)
+still_seated n commit place before next many below were end i p within =
     let after : List Player = slice_set before place next in
-    let m = k.client.seat.mark in let e = d.0.seat.mark in let pre = d.3.later.seen in
-    let end : IsSeated n was.commit place next.place =
-    later n was.commit place client.place next.place seated d.0 d.1 d.2
-    (still_same seated.client.seat k.client.seat d.0.seat k.seat d.3) in
-    let opened = begins (opening n (opening_ref was.commit)) seated.client.seat.mark.log m.log seated.opened
-    k.seat.later.seen in
-    let sight : sight_at next.place ≡ Some (sight_of d.0) = ap (option_map sight_of) d.1 in
-    let total = sum_by-set own_at before place next client below in
-    let own_c : own_at (slice_index_or before place client) ≡ length (own_moves seated.client.seat.mark) =
-    ap own_at here ∙ ap own_count seated.sits in
-    let own_d : own_at next ≡ length (own_moves e) = ap own_count d.1 in
-    let own_m : length (own_moves m) ≡ length (own_moves seated.client.seat.mark) =
-    ap (λ es. length (filter is_move es)) k.own in
-    let grow = others_grow m e d.3.later.seat pre in
-    let low = sees_moves seen m.log n was.commit opened k.sees in
-    let long : length after ≡ n = length-set before place next in
-    let now_moves : moves_seen (sight_at next.place) ≡ moves e.log = ap moves_seen sight in
-    record {
-      steady = record {
-        commit = was.commit;
-        seated = λ i p within. elim (eqb_tells i place) [
-          | inl is ↦
-              let now : slice_index_or after i p ≡ next =
-              ap (λ j. slice_index_or after j p) is.1 ∙ get_or-set_same before place next p below in
-              subst (λ (q : Player). IsSeated (length after) was.commit i q.place) (sym now)
-              (subst (λ j. IsSeated (length after) was.commit j next.place) (sym is.1)
-              (subst (λ j. IsSeated j was.commit place next.place) (sym long) end))
-          | inr not ↦
-              let same : slice_index_or after i p ≡ slice_index_or before i p =
-              get_or-set_other before place i next p not.1 in
-              subst (λ (q : Player). IsSeated (length after) was.commit i q.place) (sym same)
-              (subst (λ j. IsSeated j was.commit i (slice_index_or before i p).place) (sym long)
-              (was.seated i p (omega (within, long, arith))))
-        ];
-        counted = omega (total, own_c, own_d, own_m, grow, low, was.counted, now_moves, arith);
-        last = λ known is. (
-          place,
-          next,
-          slice_get-get_or after place next (omega (below, long, arith)) ∙ ap Some
-              (get_or-set_same before place next next below),
-          is,
-        );
-      };
-      whole = λ all. omega (total, own_c, own_d, own_m, grow, low, was.counted, now_moves, all, arith);
-      exact = λ all. record {
-        old = k.client;
-        new = d.0;
-        sat = k.sits;
-        sits = d.1;
-        exact = exact_call means seen m e d.3.later.seat pre
-            (omega (total, own_c, own_d, own_m, grow, low, was.counted, now_moves, all, arith))
-            (sees_record seen m.log n was.commit opened k.sees
-            (omega (total, own_c, own_d, own_m, grow, low, was.counted, now_moves, all, arith)));
-      };
-    }
+    let long : length after ≡ n = length-set before place next ∙ sym many in
+    elim (eqb_tells i place) [
+      | inl is ↦
+          let now : slice_index_or after i p ≡ next =
+          ap (λ j. slice_index_or after j p) is.1 ∙ get_or-set_same before place next p below in
+          subst (λ (q : Player). IsSeated (length after) commit i q.place) (sym now)
+          (subst (λ j. IsSeated (length after) commit j next.place) (sym is.1)
+          (subst (λ j. IsSeated j commit place next.place) (sym long) end))
+      | inr not ↦
+          let same : slice_index_or after i p ≡ slice_index_or before i p =
+          get_or-set_other before place i next p not.1 in
+          subst (λ (q : Player). IsSeated (length after) commit i q.place) (sym same)
+          (subst (λ j. IsSeated j commit i (slice_index_or before i p).place) (sym long)
+          (were i p (omega (within, long, many, arith))))
+    ]
+
+-- the player at a place where a list was set
+set_there : (before : List Player) (place : ℕ) (next : Player) → place < length before
+    → slice_get (slice_set before place next) place ≡ Some next
+set_there before place next below =
+    let after : List Player = slice_set before place next in
+    let long : length after ≡ length before = length-set before place next in
+    slice_get-get_or after place next (omega (below, long, arith)) ∙ ap Some
+    (get_or-set_same before place next next below)
+
+-- and at another one
+set_elsewhere : (before : List Player) (place i : ℕ) (next p : Player) → (i ≡ place → ⊥) → slice_get before i ≡ Some p
+    → slice_get (slice_set before place next) i ≡ Some p
+set_elsewhere before place i next p other at =
+    let after : List Player = slice_set before place next in
+    let long : length after ≡ length before = length-set before place next in
+    slice_get-get_or after i p (omega (slice_get_within before i p at, long, arith)) ∙ ap Some
+    (get_or-set_other before place i next p other ∙ get_or_from_slice_get before i p p at)
+
+module _ (means : Meanings) (sights : List (Option Known)) (seen : Option Known) (place : ℕ) (c : Command)
+    (before : List Player) (client next : Player) (mid : PlaceState) (t : Told)
+    (at : slice_get before place ≡ Some client) (learnt : Learns seen client.place mid)
+    (may : MayTell means sights c mid t next.place) (was : AreSteady before seen) where
+  abbrev ended : List Player
+  ended = slice_set before place next
+
+  below : place < length before
+  below = slice_get_within before place client at
+
+  here : slice_index_or before place client ≡ client
+  here = get_or_from_slice_get before place client client at
+
+  pub seated : IsSeated (length before) was.commit place client.place
+  seated = subst (λ (p : Player). IsSeated (length before) was.commit place p.place) here (was.seated place client below)
+
+  -- the client of the line sits at its place
+  module _ (sits : client.place.client ≡ Some seated.client) (calm : IsCalm client.place) where
+    abbrev k : HasCaughtUp seated.client seen mid
+    k = caught_up seated.client seen client.place mid sits calm learnt
+
+    abbrev d : GoesOn k.client next.place
+    d = sits_on means sights c k.client mid t next.place k.sits k.calm may
+
+    -- it is on its seat, others moved the head no less often than it saw, and so the lines have seen its moves
+    went : HasGone seen before ended (sight_at next.place)
+        × (IsWhole ended (sight_at next.place) → IsExactAt means seen mid next.place)
+    went =
+        let n : ℕ = length before in
+        let m = k.client.seat.mark in let e = d.next.seat.mark in let pre = d.seat.later.seen in
+        let there = client_there d.next next.place d.is in
+        let end : IsSeated n was.commit place next.place =
+        later n was.commit place client.place next.place seated (record {
+          next = d.next;
+          is = d.is;
+          seat = still_same seated.client.seat k.client.seat d.next.seat k.seat d.seat;
+        }) in
+        let opened = begins (opening n (opening_ref was.commit)) seated.client.seat.mark.log m.log seated.opened
+        k.seat.later.seen in
+        let sight : sight_at next.place ≡ Some (sight_of d.next) = ap (option_map sight_of) there in
+        let total = sum_by-set own_at before place next client below in
+        let own_c : own_at (slice_index_or before place client) ≡ length (own_moves seated.client.seat.mark) =
+        ap own_at here ∙ ap own_count (client_there seated.client client.place seated.is) in
+        let own_d : own_at next ≡ length (own_moves e) = ap own_count there in
+        let own_m : length (own_moves m) ≡ length (own_moves seated.client.seat.mark) =
+        ap (λ es. length (filter is_move es)) k.own in
+        let grow = others_grow m e d.seat.later.seat pre in
+        let low = sees_moves seen m.log n was.commit opened k.sees in
+        let now_moves : moves_seen (sight_at next.place) ≡ moves e.log = ap moves_seen sight in (
+          record {
+            steady = record {
+              commit = was.commit;
+              seated = still_seated n was.commit place before next refl below was.seated end;
+              counted = omega (total, own_c, own_d, own_m, grow, low, was.counted, now_moves, arith);
+              last = λ known is. (place, next, set_there before place next below, is);
+            };
+            whole = λ all. omega (total, own_c, own_d, own_m, grow, low, was.counted, now_moves, all, arith);
+          },
+          λ all. record {
+            old = k.client;
+            new = d.next;
+            sat = k.sits;
+            there = there;
+            exact = exact_call means seen m e d.seat.later.seat pre
+                (omega (total, own_c, own_d, own_m, grow, low, was.counted, now_moves, all, arith))
+                (sees_record seen m.log n was.commit opened k.sees
+                (omega (total, own_c, own_d, own_m, grow, low, was.counted, now_moves, all, arith)));
+          },
+        )
+
+    pub sat_still : mid.reading ≡ None
+    sat_still = k.calm.1
+
+  -- it has a reading open
+  module _ (none : client.place.client ≡ None) (is_open : client.place.reading ≡ Some seated.client) where
+    unlearnt_mid : mid ≡ client.place
+    unlearnt_mid = learns_none seen client.place mid none learnt
+
+    abbrev h : HasRead means seated.client client.place next.place t (record_seen seen) c
+    h = has_read means seated.client client.place next.place t none is_open seated.is.calm (record_seen seen) sights c
+        (subst (λ p. MayTell means sights c p t next.place) unlearnt_mid may)
+
+    first : client_at client.place ≡ Some seated.client
+    first = client_there seated.client client.place seated.is
+
+    there : client_at next.place ≡ Some h.next
+    there = client_there h.next next.place h.is
+
+    same_sight : sight_at next.place ≡ sight_at client.place
+    same_sight =
+        ap (option_map sight_of) there ∙ ap (λ (m : Known). Some (known m.book m.log None)) h.mark
+        ∙ sym (ap (option_map sight_of) first)
+
+    -- what the lines have seen its client has still, or another one
+    seen_last : (known : Known) → (i : ℕ) × (p : Player) × (slice_get before i ≡ Some p)
+        × (sight_at p.place ≡ Some known)
+        → (i : ℕ) × (p : Player) × (slice_get ended i ≡ Some p) × (sight_at p.place ≡ Some known)
+    seen_last known l = elim (eqb_tells l.0 place) [
+      | inl is ↦
+          let whole : Some l.1 ≡ Some client = sym l.2 ∙ ap (slice_get before) is.1 ∙ at in
+          let same : l.1 ≡ client = cc whole in (
+            place,
+            next,
+            set_there before place next below,
+            same_sight ∙ ap (λ (p : Player). sight_at p.place) (sym same) ∙ l.3,
+          )
+      | inr not ↦ (l.0, l.1, set_elsewhere before place l.0 next l.1 not.1 l.2, l.3)
+    ]
+
+    read_on : HasGone seen before ended seen
+    read_on =
+        let n : ℕ = length before in
+        let end : IsSeated n was.commit place next.place =
+        later n was.commit place client.place next.place seated (record { next = h.next; is = h.is; seat = h.seat }) in
+        let total = sum_by-set own_at before place next client below in
+        let own_c : own_at (slice_index_or before place client) ≡ length (own_moves seated.client.seat.mark) =
+        ap own_at here ∙ ap own_count first in
+        let own_d : own_at next ≡ length (own_moves seated.client.seat.mark) =
+        ap own_count there ∙ ap (λ m. length (own_moves m)) h.mark in
+        record {
+          steady = record {
+            commit = was.commit;
+            seated = still_seated n was.commit place before next refl below was.seated end;
+            counted = omega (total, own_c, own_d, was.counted, arith);
+            last = λ known is. seen_last known (was.last known is);
+          };
+          whole = λ all. omega (total, own_c, own_d, all, arith);
+        }
+
+  -- how a line was gone on with, by what its client had open
+  gone : (now : Option Known) → now ≡ seen_behind mid.reading seen (sight_at next.place)
+      → HasGone seen before ended now
+  gone now sees = elim seated.is.at [
+    | inl s ↦
+        let calm : IsCalm client.place = (seated.is.calm, s.1) in
+        subst (HasGone seen before ended)
+        (sym (sees ∙ ap (λ o. seen_behind o seen (sight_at next.place)) (sat_still s.0 calm))) (went s.0 calm).0
+    | inr r ↦
+        let is_open : mid.reading ≡ Some seated.client =
+        ap (λ (p : PlaceState). p.reading) (unlearnt_mid r.0 r.1) ∙ r.1 in
+        subst (HasGone seen before ended)
+        (sym (sees ∙ ap (λ o. seen_behind o seen (sight_at next.place)) is_open)) (read_on r.0 r.1)
+  ]
+
+  -- the line of a client that sits at its place is exact where all moves are the clients'
+  pub exact_sitting : (now : Option Known) → client.place.client ≡ Some seated.client → IsCalm client.place
+      → now ≡ sight_at next.place → IsWhole ended now → IsExactAt means seen mid next.place
+  exact_sitting now sits calm sees all = (went sits calm).1 (subst (IsWhole ended) sees all)
 
 -- so did a line whose client made its call
 pub called_steady : (means : Meanings) (sights : List (Option Known)) (seen : Option Known) (place : ℕ) (c : Command)
     (before : List Player) (t : Told) (after : List Player) (now : Option Known)
     → IsCalledAt means sights seen place c before t after now → StaySteady before seen after now
 called_steady means sights seen place c before t after now h was =
-    let gone = went means sights seen place c before h.client h.next h.mid t h.at h.learnt h.may was in
-    subst (λ ps. AreSteady ps now × (IsWhole ps now → IsWhole before seen)) (sym h.left)
-    (subst (λ s. AreSteady (slice_set before place h.next) s × (IsWhole (slice_set before place h.next) s
-    → IsWhole before seen)) (sym h.sees) (gone.steady, gone.whole))
-
--- The line of a client is exact where all moves are the clients'.
-pub told_exact : (means : Meanings) (sights : List (Option Known)) (seen : Option Known) (place : ℕ) (l : ℕ × Command)
-    (before : List Player) (text : Bytes) (after : List Player) (now : Option Known)
-    (told : IsToldAt means sights seen place l before text after now) → AreSteady before seen → IsWhole after now
-    → IsExactAt means seen told.mid told.next.place
-told_exact means sights seen place l before text after now h was all =
-    (went means sights seen place l.1 before h.client h.next h.mid h.may.t h.at h.learnt h.may.may was).exact
-    (subst (λ s. IsWhole (slice_set before place h.next) s) h.sees (subst (λ ps. IsWhole ps now) h.left all))
+    let g = gone means sights seen place c before h.client h.next h.mid t h.at h.learnt h.may was now h.sees in
+    subst (λ ps. AreSteady ps now × (IsWhole ps now → IsWhole before seen)) (sym h.left) (g.steady, g.whole)
 
 -- ---- at the end
 
@@ -267,9 +325,9 @@ settled means players (Some known) was found =
     let l = was.last known refl in let p = l.1 in
     let below = slice_get_within players l.0 p l.2 in
     let r = found (omega (below, arith)) in let book = r.0 in
-    let at = subst (λ (q : Player). (b : ClientState) × (q.place.client ≡ Some b) × IsPrefix b.seat.mark.log book)
+    let at = subst (λ (q : Player). (b : ClientState) × (client_at q.place ≡ Some b) × IsPrefix b.seat.mark.log book)
     (get_or_from_slice_get players l.0 p p l.2)
-    (let i = r.1.each l.0 p below in (i.client, i.sits, i.seen)) in
+    (let i = r.1.each l.0 p below in (i.client, i.there, i.seen)) in
     let same : Some (sight_of at.0) ≡ Some known = ap (option_map sight_of) (sym at.1) ∙ l.3 in
     let is : sight_of at.0 ≡ known = cc same in
     let first : moves at.0.seat.mark.log ≡ moves known.log = ap (λ (m : Known). moves m.log) is in
@@ -283,7 +341,7 @@ settled means players (Some known) was found =
     let bound : slice_index_or bounds i 0 ≡ own_at (slice_index_or players i p) =
     get_or-map own_at players i p 0 there in
     let count : own_at (slice_index_or players i p) ≡ length (own_moves in_book.client.seat.mark) =
-    ap own_count in_book.sits in
+    ap own_count in_book.there in
     let own_is : moves (mine (suc i) book) ≡ length (own_moves in_book.client.seat.mark) = ap moves in_book.own in
     omega (bound, count, own_is, arith)) in
     let total : sum bounds ≡ sum_by own_at players = sum-map own_at players in

@@ -11,7 +11,7 @@ use Rattle.script_parser.specs.declared.script.Command.{Command}
 use Rattle.script_runner.specs.declared.clients.Clients.{Clients}
 use Rattle.script_runner.specs.Commanding.{Learns, MayPrint, Player}
 use Rattle.script_runner.specs.Printing.{line_text}
-use Rattle.script_runner.specs.Sights.{sight_at}
+use Rattle.script_runner.specs.Sights.{seen_behind, sight_at}
 use Rattle.script_runner.specs.Inside.Players.{players_of}
 
 -- how the clients stand
@@ -27,8 +27,8 @@ abbrev pub seen_in : {M : Type 0} → Clients M → Option Known
 seen_in clients = clients.seen
 
 -- In a group whose mutators mean this: the client at a place does the command of a line, and the text is its line of
--- output. First it learns what the lines before have seen; and what it has seen at the end is what the next line's
--- client learns. The other clients stay as they are.
+-- output. First it learns what the lines before have seen, unless it has a reading open; and what is seen behind the
+-- line is what the next line's client learns. The other clients stay as they are.
 pub record IsToldAt (means : Meanings) (sights : List (Option Known)) (seen : Option Known) (place : ℕ)
     (l : ℕ × Command) (before : List Player) (text : Bytes) (after : List Player) (now : Option Known) : Type 0 where
   pub client : Player
@@ -41,7 +41,7 @@ pub record IsToldAt (means : Meanings) (sights : List (Option Known)) (seen : Op
   pub name : next.name ≡ client.name
   pub printed : text ≡ line_text l.0 client.name told
   pub left : after ≡ slice_set before place next
-  pub sees : now ≡ sight_at next.place
+  pub sees : now ≡ seen_behind mid.reading seen (sight_at next.place)
 
 -- the record of what was seen; before the first line no change was made
 abbrev pub record_seen : Option Known → List Change

@@ -11,12 +11,15 @@ use Rattle.script_parser.specs.declared.script.Query.TheVariants as query
 use Rattle.client_desk.specs.declared.calls.Call.{Call}
 use Rattle.client_desk.specs.declared.calls.Call.TheVariants as call
 use Rattle.client_desk.specs.declared.calls.Keep.TheVariants.{At}
-use Rattle.client_desk.specs.declared.outcomes.Outcome.TheVariants.{Done}
+use Rattle.client_desk.specs.declared.faults.Fault.TheVariants.{Reads}
+use Rattle.client_desk.specs.declared.outcomes.Outcome.{Outcome}
+use Rattle.client_desk.specs.declared.outcomes.Outcome.TheVariants.{Done, Faulty}
 use Rattle.client_desk.specs.Kept.{kept_at}
 use Rattle.client_desk.specs.Learning.{LearnsAt}
 use Rattle.client_desk.specs.Places.{PlaceState}
 use Rattle.client_desk.specs.Told.{Told, told_alone}
 use Rattle.client_desk.specs.Waiting.{MayAnswerWaiting}
+use Rattle.rebase.specs.Clients.{ClientState}
 use Rattle.rebase.specs.declared.calls.Mutate.{Mutate}
 use Rattle.script_runner.specs.Printing.{told_text}
 
@@ -54,6 +57,8 @@ Asks (command.Mutate m) (call.Mutate n) = AsksMutation m n
 Asks command.Refresh call.Refresh = ⊤
 Asks command.Moment call.Moment = ⊤
 Asks command.Slots call.Slots = ⊤
+Asks command.BeginRead call.BeginRead = ⊤
+Asks command.EndRead call.EndRead = ⊤
 Asks (command.Watch n scan) (call.Watch keep s) = (keep ≡ At n) × (s.now ≡ scan)
 Asks (command.Poll n) (call.Poll m) = m ≡ n
 Asks (command.Changes n) (call.PollChanges m) = m ≡ n
@@ -65,11 +70,16 @@ abbrev pub Learns : Option Known → PlaceState → PlaceState → Type 0
 Learns (Some seen) before after = LearnsAt before.client seen before after
 Learns None before after = after ≡ before
 
+-- what it comes to that a client is to learn: one that has a reading open learns nothing, which is told
+abbrev pub learnt_by : Option ClientState → Outcome
+learnt_by None = Done
+learnt_by (Some reader) = Faulty Reads
+
 -- it learns what the one at a place had seen
 pub record MayLearn (sights : List (Option Known)) (place : ℕ) (before : PlaceState) (t : Told)
     (after : PlaceState) : Type 0 where
   pub learnt : Learns (kept_at sights place) before after
-  pub told : t ≡ told_alone Done
+  pub told : t ≡ told_alone (learnt_by before.reading)
 
 -- In a group whose mutators mean this.
 module _ (means : Meanings) where

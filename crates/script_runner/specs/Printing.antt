@@ -10,7 +10,8 @@ use Rattle.script_parser.specs.declared.script.Command.{Command}
 use Rattle.script_parser.specs.declared.script.Command.TheVariants as command
 use Rattle.script_parser.specs.declared.script.Query.{Query}
 use Rattle.script_parser.specs.declared.script.Query.TheVariants as query
-use Rattle.client_desk.specs.declared.faults.Fault.TheVariants.{NoWatch}
+use Rattle.client_desk.specs.declared.faults.Fault.{Fault}
+use Rattle.client_desk.specs.declared.faults.Fault.TheVariants.{NoWatch, NotRead, Reads}
 use Rattle.client_desk.specs.declared.outcomes.Outcome.{Outcome}
 use Rattle.client_desk.specs.declared.outcomes.Outcome.TheVariants.{Done, Number, Nothing, Is, Asked, Refused, Faulty}
 use Rattle.client_desk.specs.Told.{Told}
@@ -35,6 +36,8 @@ done_word (command.Mutate m) = codes "id "
 done_word command.Refresh = codes "last "
 done_word command.Moment = codes "moment "
 done_word command.Slots = codes "slots "
+done_word command.BeginRead = codes "reading"
+done_word command.EndRead = codes "read"
 done_word (command.Learn place) = codes "learnt"
 done_word (command.Watch n scan) = codes "watching"
 done_word (command.Poll n) = codes "new "
@@ -70,8 +73,14 @@ refusal_detail e = []
 abbrev pub refused_text : Refusal → Bytes
 refused_text e = codes "refused " ++ refusal_name e ++ refusal_detail e
 
--- what a command came to: a client of a script sits at its place, so what it lacks is a watch or a ticket, and its group
--- asks for no run
+-- what a place lacks, or has open: a client is there, and its group asks for no run
+abbrev pub fault_text : Fault → Bytes
+fault_text NoWatch = codes "no watch"
+fault_text Reads = codes "reads"
+fault_text NotRead = codes "no reading"
+fault_text other = codes "no ticket"
+
+-- what a command came to
 abbrev pub outcome_text : Command → Outcome → Bytes
 outcome_text c Done = done_word c
 outcome_text c (Number n) = done_word c ++ number_text c n
@@ -79,8 +88,7 @@ outcome_text c Nothing = nothing_word c
 outcome_text c (Is is) = bool_text is
 outcome_text c Asked = []
 outcome_text c (Refused e) = refused_text e
-outcome_text c (Faulty NoWatch) = codes "no watch"
-outcome_text c (Faulty other) = codes "no ticket"
+outcome_text c (Faulty fault) = fault_text fault
 
 -- and what it told
 abbrev pub told_text : Command → Told → Bytes

@@ -6,13 +6,14 @@ use Rattle.head_word.specs.declared.entry.Entry.{Entry}
 use Rattle.head_word.specs.Books.{IsOpened, seats_of}
 use Rattle.head_word.specs.Marks.{own, own_of}
 use Rattle.rebase.specs.Clients.{ClientState}
+use Rattle.client_desk.specs.Places.{client_at}
 use Rattle.script_runner.specs.Commanding.{Player}
 
 -- A client by its seat's number, when its last call has ended: it has seen a beginning of the book, and what its seat
 -- added stands there as it was added.
 pub record IsIn (book : List Entry) (number : ℕ) (p : Player) : Type 0 where
   pub client : ClientState
-  pub sits : p.place.client ≡ Some client
+  pub there : client_at p.place ≡ Some client
   pub seat : client.seat.mark.seat ≡ Some number
   pub seen : IsPrefix client.seat.mark.log book
   pub own : own_of (Some number) book ≡ own client.seat.mark

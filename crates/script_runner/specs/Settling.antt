@@ -7,17 +7,18 @@ use Rattle.std.specs.List.{sum_by}
 use Rattle.head_word.specs.Marks.{Known}
 use Rattle.answered.specs.Answered.{is_move, own_moves}
 use Rattle.rebase.specs.Clients.{ClientState}
+use Rattle.client_desk.specs.Places.{client_at}
 use Rattle.script_runner.specs.Commanding.{Player}
 use Rattle.script_runner.specs.Sights.{sight_at}
 use Rattle.script_runner.specs.Inside.Records.{AreSeated}
 
--- how often the seat of a client has moved the head, where one sits
+-- how often the seat of a client has moved the head, where there is one
 abbrev pub own_count : Option ClientState → ℕ
 own_count None = 0
 own_count (Some c) = length (own_moves c.seat.mark)
 
 abbrev pub own_at : Player → ℕ
-own_at p = own_count p.place.client
+own_at p = own_count (client_at p.place)
 
 -- how often the head was moved, as the lines have seen; once, by the opening, before the first one
 abbrev pub moves_seen : Option Known → ℕ
@@ -28,8 +29,8 @@ moves_seen (Some seen) = length (filter is_move seen.log)
 abbrev pub IsWhole : List Player → Option Known → Type 0
 IsWhole players seen = moves_seen seen ≤ suc (sum_by own_at players)
 
--- The clients sit at their places, each on the seat of its number; the lines have seen each move that they made, and
--- the last one what its client has.
+-- The clients are at their places, each on the seat of its number; the lines have seen each move that they made, and
+-- what they have seen one client has.
 pub record AreSteady (players : List Player) (seen : Option Known) : Type 0 where
   pub commit : ℕ
   pub seated : AreSeated (length players) commit players

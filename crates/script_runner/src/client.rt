@@ -5,7 +5,7 @@ ghost use Rattle.script_runner.specs.Commanding.{Asks, AsksMutation, AsksQuery, 
 ghost use Rattle.script_runner.specs.Sights.{CanLearnAll};
 ghost use Rattle.script_runner.specs.Inside.Players.{IsSamePlayer, player_of};
 
-use client_desk::{Call, Keep, Mutate, Outcome, Place, Whole};
+use client_desk::{Call, Fault, Keep, Mutate, Outcome, Place, Whole};
 use group_history::{Mutators, Text};
 use head_word::Mark;
 use script_parser::{Command, MutatorCall, Query};
@@ -54,6 +54,8 @@ impl<M: Mutators + Drop> ScriptClient<M> {
             Command::Refresh => self.make(rt, command, Call::Refresh, bytes),
             Command::Moment => self.make(rt, command, Call::Moment, bytes),
             Command::Slots => self.make(rt, command, Call::Slots, bytes),
+            Command::BeginRead => self.make(rt, command, Call::BeginRead, bytes),
+            Command::EndRead => self.make(rt, command, Call::EndRead, bytes),
             Command::Learn(place) => self.learn(sights, *place),
             Command::Watch(number, scan) => {
                 self.make(rt, command, Call::Watch(Keep::At(*number), scan), bytes)
@@ -81,16 +83,21 @@ impl<M: Mutators + Drop> ScriptClient<M> {
         self.place.call_waiting(rt, call, bytes)
     }
 
-    // Learns what the client at a place had seen.
+    // Learns what the client at a place had seen. Where a reading is open nothing is learnt, and that is told.
     fn learn(&mut self, sights: &[Option<Mark<Whole<M>>>], place: usize) -> Outcome
         requires { CanLearnAll self.old.place.group sights.now }
         ensures told { MayLearn sights.now place self.old.place (told_alone result) self.new.place }
         ensures same { IsSamePlayer self.old self.new }
     {
+        let reads = self.place.reads();
         if let Some(Some(seen)) = sights.get(place) {
             self.place.learn(seen);
         }
-        Outcome::Done
+        if reads {
+            Outcome::Faulty(Fault::Reads)
+        } else {
+            Outcome::Done
+        }
     }
 }
 

@@ -5,7 +5,8 @@
 //!
 //! The client of a line first learns what the lines before have seen. So its call begins where theirs ended, and as the
 //! clients have all seats of the group, nobody changes it in between: `told` says that a line is answered on top of all
-//! lines before it, `steady` and the clause of `settle` that this holds of each line once the last one is done.
+//! lines before it, `steady` and the clause of `settle` that this holds of each line once the last one is done. One that
+//! has a reading open learns nothing: it reads what the line found that began it, and sees nothing that others haven't.
 ghost use Rattle.std.specs.Prelude.{◌≡◌, IfOk};
 ghost use Rattle.std.specs.Arc.{arc_value};
 ghost use Rattle.std.specs.Coded.{Coded-set, codes, Π_prop, →_prop};
@@ -58,7 +59,7 @@ impl<M: Mutators + Drop> Drop for Clients<M> {
     }
 }
 
-/// A client learns what was seen, where anything was.
+/// A client learns what was seen, where anything was. One that has a reading open doesn't.
 fn catch_up<M: Mutators + Drop>(client: &mut ScriptClient<M>, seen: &Option<Mark<Whole<M>>>)
     requires { IsSeenAt client.old.place.group seen.now }
     ensures learnt { Learns seen.now client.old.place client.new.place }
@@ -116,7 +117,8 @@ impl<M: Mutators + Drop> Clients<M> {
         Ok(())
     }
 
-    /// The client at a place learns what the lines so far have seen, and does a command.
+    /// The client at a place learns what the lines so far have seen, and does a command. What it has seen then is what
+    /// the lines have, unless it had a reading open, which may be of a time before.
     fn call<R: Wait>(
         &mut self,
         rt: &R,
@@ -133,8 +135,11 @@ impl<M: Mutators + Drop> Clients<M> {
     {
         let client = &mut self.turns[place].client;
         catch_up(client, &self.seen);
+        let is_reading = client.place.reads();
         let outcome = client.call(rt, &self.sights, command, bytes);
-        self.seen = client.place.sight();
+        if !is_reading {
+            self.seen = client.place.sight();
+        }
         outcome
     }
 
@@ -163,20 +168,20 @@ impl<M: Mutators + Drop> Clients<M> {
         print_line(text, line, name, outcome, &bytes)
     }
 
-    /// Ends the group, once the last line is done: all clients learn of each other. So it is known that none but they
-    /// changed the group. Takes no memory.
+    /// Ends the group, once the last line is done: open readings end, and all clients learn of each other. So it is known
+    /// that none but they changed the group. Takes no memory.
     pub fn settle(self)
         requires { AreSteady (players_in self) (seen_in self) }
         ensures { IsWhole (players_in self) (seen_in self) }
     {
         let Clients {
-            alloc: _,
+            alloc,
             group,
             mut turns,
             sights,
             seen,
         } = self;
-        gather(&mut turns);
+        gather(alloc, &mut turns);
         drop(group);
         drop(turns);
         drop(sights);

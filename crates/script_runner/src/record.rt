@@ -1,5 +1,5 @@
-//! The one record of a run: at its end one client learns what all have seen, and then each other one learns that these
-//! are all changes.
+//! The one record of a run: at its end open readings end, one client learns what all have seen, and then each other one
+//! learns that these are all changes.
 ghost use Rattle.std.specs.Prelude.{ℕ, ◌≡◌, ◌<◌, List, length};
 ghost use Rattle.std.specs.List.{All};
 ghost use Rattle.head_word.specs.declared.entry.Entry.{Entry};
@@ -8,11 +8,14 @@ ghost use Rattle.script_runner.specs.Commanding.{Learns};
 ghost use Rattle.script_runner.specs.Records.{IsRecordOf};
 ghost use Rattle.script_runner.specs.Sights.{sight_at};
 ghost use Rattle.script_runner.specs.Inside.Players.{players_of};
-ghost use Rattle.script_runner.specs.Inside.Records.{AreConfirmed, AreSeated, Covers, HasLearnt, IsSitting, log_at};
+ghost use Rattle.script_runner.specs.Inside.Records.{AreConfirmed, AreSeated, Covers, HasLearnt, HasReadThrough};
+ghost use Rattle.script_runner.specs.Inside.Records.{HaveReadThrough, IsManned, IsSitting, log_at};
 ghost use Rattle.script_runner.specs.Inside.Turns.{AreOf, AreOfOneGroup};
 
 use crate::phase::Turn;
+use client_desk::Call;
 use group_history::Mutators;
+use std::alloc::Global;
 
 /// A client learns what another one of its group has seen.
 fn hear<M: Mutators + Drop>(turn: &mut Turn<M>, other: &Turn<M>)
@@ -59,8 +62,27 @@ fn is_legal<M: Mutators + Drop>(turn: &Turn<M>)
     }
 }
 
-/// At the end of a run one client learns what all others have seen, and the others learn that from it.
-pub(crate) fn gather<M: Mutators + Drop>(turns: &mut [Turn<M>])
+/// The client of a turn sits at its place: a reading that it has open ends.
+fn read_through<M: Mutators + Drop>(alloc: Global, turn: &mut Turn<M>)
+    requires { IsManned turn.old }
+    ensures { HasReadThrough turn.old turn.new }
+{
+    let mut bytes = Vec::new(alloc);
+    let _ = turn.client.place.call(Call::EndRead, &mut bytes);
+}
+
+/// So do the clients of all turns.
+fn read_all_through<M: Mutators + Drop>(alloc: Global, turns: &mut [Turn<M>])
+    requires { All IsManned turns.old }
+    ensures { HaveReadThrough (length turns.old) turns.old turns.new }
+{
+    for i in 0..turns.len() {
+        read_through(alloc, &mut turns[i]);
+    }
+}
+
+/// One client learns what all others have seen, and the others learn that from it.
+fn unite<M: Mutators + Drop>(turns: &mut [Turn<M>])
     requires one { AreOfOneGroup turns.old }
     requires all { All IsSitting turns.old }
     ensures { (count commit : ℕ) → AreSeated count commit (players_of turns.old) → count ≡ length turns.old
@@ -71,4 +93,15 @@ pub(crate) fn gather<M: Mutators + Drop>(turns: &mut [Turn<M>])
         confirm_all(others, first);
         is_legal(first);
     }
+}
+
+/// At the end of a run open readings end, and the clients learn of each other what they have seen. Takes no memory.
+pub(crate) fn gather<M: Mutators + Drop>(alloc: Global, turns: &mut [Turn<M>])
+    requires one { AreOfOneGroup turns.old }
+    requires all { All IsManned turns.old }
+    ensures { (count commit : ℕ) → AreSeated count commit (players_of turns.old) → count ≡ length turns.old
+        → 0 < length turns.old → (book : List Entry) × IsRecordOf M.means (players_of turns.old) book }
+{
+    read_all_through(alloc, turns);
+    unite(turns);
 }

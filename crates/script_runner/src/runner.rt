@@ -251,7 +251,7 @@ fn run_shared<R: AllocGlobal + Threads + Wait + Sync, G: Gate, W: io::Write>(
     let mut turns = open_script(alloc, &script.header, ScriptMutators)?;
     let turns: &mut [Turn<ScriptMutators>] = &mut turns;
     run_phases(&Host { rt, alloc, gate }, turns, &script.phases, out)?;
-    gather(turns);
+    gather(alloc, turns);
     Ok(())
 }
 

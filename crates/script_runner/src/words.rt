@@ -3,8 +3,8 @@
 ghost use Rattle.std.specs.Prelude.{◌≡◌, ◌++◌, decimal, OnOk};
 ghost use Rattle.group_history.specs.Refusals.{refusal_name};
 ghost use Rattle.client_desk.specs.Told.{told};
-ghost use Rattle.script_runner.specs.Printing.{done_word, line_text, nothing_word, number_text, outcome_text};
-ghost use Rattle.script_runner.specs.Printing.{query_word, refusal_detail, refused_text, told_text};
+ghost use Rattle.script_runner.specs.Printing.{done_word, fault_text, line_text, nothing_word, number_text};
+ghost use Rattle.script_runner.specs.Printing.{outcome_text, query_word, refusal_detail, refused_text, told_text};
 
 use client_desk::{Fault, Outcome};
 use group_history::Refusal;
@@ -37,6 +37,8 @@ fn done_word(command: &Command) -> &'static str
         Command::Refresh => "last ",
         Command::Moment => "moment ",
         Command::Slots => "slots ",
+        Command::BeginRead => "reading",
+        Command::EndRead => "read",
         Command::Learn(_) => "learnt",
         Command::Watch(_, _) => "watching",
         Command::Poll(_) => "new ",
@@ -104,6 +106,18 @@ fn print_refusal(refusal: Refusal, out: &mut Vec<u8>) -> Result<(), AllocError>
     print_detail(refusal, out)
 }
 
+// What a place lacks, or has open.
+fn fault_text(fault: Fault) -> &'static str
+    ensures { result.now ≡ fault_text fault }
+{
+    match fault {
+        Fault::NoWatch => "no watch",
+        Fault::Reads => "reads",
+        Fault::NotRead => "no reading",
+        _ => "no ticket",
+    }
+}
+
 // What a command came to.
 fn print_outcome(command: &Command, outcome: Outcome, out: &mut Vec<u8>) -> Result<(), AllocError>
     ensures { OnOk result (out.new.items ≡ out.old.items ++ outcome_text command.now outcome) }
@@ -115,8 +129,7 @@ fn print_outcome(command: &Command, outcome: Outcome, out: &mut Vec<u8>) -> Resu
         Outcome::Is(true) => out.extend_from_slice(b"yes"),
         Outcome::Is(false) => out.extend_from_slice(b"no"),
         Outcome::Refused(refusal) => print_refusal(refusal, out),
-        Outcome::Faulty(Fault::NoWatch) => out.extend_from_slice(b"no watch"),
-        Outcome::Faulty(_) => out.extend_from_slice(b"no ticket"),
+        Outcome::Faulty(fault) => out.extend_from_slice(fault_text(fault).as_bytes()),
         Outcome::Asked => Ok(()),
     }
 }

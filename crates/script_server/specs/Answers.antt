@@ -97,14 +97,16 @@ BeginsPhase (p ∷ ps) before said after = after ≡ record before { said = said
 
 -- The client at a place does the command of its line. It is told what the group of one thread replies (`plain`) at the
 -- state after the changes of all lines before, and the record gains the change that this reply stands for; or the line
--- is refused for want of memory, slots or stamps, and the record stays. `told` says of that what is printed, which
--- cause a refusal has, what the client keeps, and of free slots how they were counted.
+-- is refused for want of memory, slots or stamps, and the record stays. Where the client has a reading open, the state
+-- is the one before the line that began it. `told` says of that what is printed, which cause a refusal has, what the
+-- client keeps, and of free slots how they were counted.
 pub record Tells (place : ℕ) (line : Line) (before : Standing) (said : Context) (text : Bytes)
     (after : Standing) : Type 0
   where
     pub told : IsToldAt (means_in before) before.sights before.seen place (line_said line) before.players text
         after.players after.seen
-    pub plain : IsPlain (means_in before) line.command told.client.place told.may.t (record_in before) after.seen
+    pub plain : IsPlain (means_in before) line.command told.client.place told.next.place told.may.t (record_in before)
+        after.seen
     pub left : after ≡ record before { said = said; players = after.players; seen = after.seen }
 
 -- what a line asks is done, and this was then said

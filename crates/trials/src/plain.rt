@@ -251,6 +251,7 @@ impl Player {
             Command::Moment | Command::Slots | Command::Changes(_) => {
                 out.say("nothing of a trial");
             }
+            Command::BeginRead | Command::EndRead => out.say("nothing of a trial"),
             Command::Watch(number, scan) => self.say_watch(*number, scan, out),
             Command::Poll(number) => self.say_poll(plain, *number, out),
             Command::Unwatch(number) => self.unwatch(*number, out),

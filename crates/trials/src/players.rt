@@ -302,6 +302,7 @@ impl<'g, S: Store<ScriptMutators> + Drop> Player<'g, S> {
             Command::Moment | Command::Slots | Command::Changes(_) => {
                 out.say("nothing of a trial");
             }
+            Command::BeginRead | Command::EndRead => out.say("nothing of a trial"),
             Command::Query(Query::Scan(scan)) => self.scan(it, scan, way.tries, out),
             Command::Query(query) => self.ask(it, query, way.tries, out),
             _ => {}
@@ -319,6 +320,7 @@ impl<'g, S: Store<ScriptMutators> + Drop> Player<'g, S> {
         let is_other = match command {
             Command::Learn(_) | Command::Moment | Command::Slots | Command::Changes(_) => true,
             Command::Watch(..) | Command::Poll(_) | Command::Unwatch(_) => true,
+            Command::BeginRead | Command::EndRead => true,
             Command::Query(Query::Scan(_)) => way.manner == Manner::Into,
             Command::Query(query) => is_no_call(query),
             _ => false,

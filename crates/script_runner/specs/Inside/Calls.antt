@@ -6,7 +6,7 @@ use Rattle.client_desk.specs.Places.{PlaceState}
 use Rattle.client_desk.specs.Told.{Told}
 use Rattle.script_parser.specs.declared.script.Command.{Command}
 use Rattle.script_runner.specs.Commanding.{Learns, MayTell, Player}
-use Rattle.script_runner.specs.Sights.{sight_at}
+use Rattle.script_runner.specs.Sights.{seen_behind, sight_at}
 
 -- the client at a place learnt what the lines before have seen, and did the command; the others stay as they are
 pub record IsCalledAt (means : Meanings) (sights : List (Option Known)) (seen : Option Known) (place : ℕ) (c : Command)
@@ -19,4 +19,4 @@ pub record IsCalledAt (means : Meanings) (sights : List (Option Known)) (seen : 
   pub may : MayTell means sights c mid t next.place
   pub name : next.name ≡ client.name
   pub left : after ≡ slice_set before place next
-  pub sees : now ≡ sight_at next.place
+  pub sees : now ≡ seen_behind mid.reading seen (sight_at next.place)

@@ -8,7 +8,7 @@ use Rattle.head_word.specs.Marks.{Known}
 use Rattle.answered.specs.Answered.{IsPoint, own_moves}
 use Rattle.rebase.specs.Calls.{IsAlone}
 use Rattle.rebase.specs.Clients.{ClientState}
-use Rattle.client_desk.specs.Places.{PlaceState}
+use Rattle.client_desk.specs.Places.{PlaceState, client_at}
 use Rattle.script_runner.specs.Answering.{record_seen}
 
 -- Beside a call that began when its client knew `old` and ended when it knew `new` nobody made a change, nor before it
@@ -23,10 +23,10 @@ pub record IsExact (means : Meanings) (seen : Option Known) (old new : Known) : 
       → record_of new.log ≡ record_seen seen ++ with_change change []
   pub none : own_moves new ≡ own_moves old → record_of new.log ≡ record_seen seen
 
--- so is the call of the client that sits at a place
+-- so is the call of the client that sits at a place, and has a reading open there then, or sits there still
 pub record IsExactAt (means : Meanings) (seen : Option Known) (before after : PlaceState) : Type 0 where
   pub old : ClientState
   pub new : ClientState
   pub sat : before.client ≡ Some old
-  pub sits : after.client ≡ Some new
+  pub there : client_at after ≡ Some new
   pub exact : IsExact means seen old.seat.mark new.seat.mark

@@ -1,5 +1,5 @@
 -- How the one record of a run is found, in the code.
-use Rattle.std.specs.Prelude.{ℕ, ◌≡◌, ◌<◌, ◌≤◌, List, [], length, slice_index_or, Option, Some, None}
+use Rattle.std.specs.Prelude.{ℕ, ◌≡◌, ◌⊎◌, ◌<◌, ◌≤◌, List, [], length, slice_index_or, Option, Some, None}
 use mathlib.Core.List.{IsPrefix}
 use Rattle.head_word.specs.declared.entry.Entry.{Entry}
 use Rattle.head_word.specs.Books.{opening, opening_ref}
@@ -7,18 +7,27 @@ use Rattle.head_word.specs.Marks.{own}
 use Rattle.commit_graph.specs.Seats.{IsSameSeat}
 use Rattle.rebase.specs.Clients.{ClientState}
 use Rattle.client_desk.specs.Places.{PlaceState}
-use Rattle.client_desk.specs.Inside.Sitting.{IsCalm}
 use Rattle.script_runner.specs.Commanding.{Player}
 use Rattle.script_runner.specs.declared.phase.Turn.{Turn}
 
--- At a place of a group that was opened for so many a client sits, by its seat's number; no run is asked for, and no
--- reading is open.
+-- the client sits at the place, and no reading is open; or it has one open there
+abbrev pub SitsAt : ClientState → PlaceState → Type 0
+SitsAt client p = (p.client ≡ Some client) × (p.reading ≡ None)
+
+abbrev pub ReadsAt : ClientState → PlaceState → Type 0
+ReadsAt client p = (p.client ≡ None) × (p.reading ≡ Some client)
+
+-- it is the client of the place, where no run is asked for
+pub record IsClientOf (client : ClientState) (p : PlaceState) : Type 0 where
+  pub at : SitsAt client p ⊎ ReadsAt client p
+  pub calm : p.asking ≡ None
+
+-- A place of a group that was opened for so many has a client, by its seat's number.
 pub record IsSeated (count commit number : ℕ) (p : PlaceState) : Type 0 where
   pub client : ClientState
-  pub sits : p.client ≡ Some client
+  pub is : IsClientOf client p
   pub seat : client.seat.mark.seat ≡ Some number
   pub opened : IsPrefix (opening count (opening_ref commit)) client.seat.mark.log
-  pub calm : IsCalm p
 
 -- so do clients at all places
 abbrev pub AreSeated : ℕ → ℕ → List Player → Type 0
@@ -50,6 +59,27 @@ Covers turn other = IsPrefix (log_at other) (log_at turn)
 -- the clients of these turns sit at their places
 abbrev pub IsSitting : {M : Type 0} → Turn M → Type 0
 IsSitting turn = (c : ClientState) × (turn.client.place.client ≡ Some c)
+
+-- or they are the clients of these
+abbrev pub IsManned : {M : Type 0} → Turn M → Type 0
+IsManned turn = (c : ClientState) × IsClientOf c turn.client.place
+
+-- The client of a turn sits at its place, and no reading of it is open: one that was has ended. It knows what it knew.
+pub record HasReadThrough {M : Type 0} (old new : Turn M) : Type 0 where
+  pub client : ClientState
+  pub next : ClientState
+  pub was : IsClientOf client old.client.place
+  pub sits : SitsAt next new.client.place
+  pub calm : new.client.place.asking ≡ None
+  pub mark : next.seat.mark ≡ client.seat.mark
+  pub group : new.client.place.group ≡ old.client.place.group
+
+-- so do the first n of these, and the rest are as they were
+pub record HaveReadThrough {M : Type 0} (n : ℕ) (old new : List (Turn M)) : Type 0 where
+  pub count : length new ≡ length old
+  pub each : (k : ℕ) (d : Turn M) → k < n → k < length old
+      → HasReadThrough (slice_index_or old k d) (slice_index_or new k d)
+  pub rest : (k : ℕ) (d : Turn M) → n ≤ k → k < length old → slice_index_or new k d ≡ slice_index_or old k d
 
 -- the first n of these clients have learnt what the client of the other turn has seen; the rest are as they were
 pub record AreConfirmed {M : Type 0} (n : ℕ) (other : Turn M) (old new : List (Turn M)) : Type 0 where

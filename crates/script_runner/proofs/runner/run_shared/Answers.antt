@@ -2,7 +2,7 @@ use Rattle.std.proofs.Common.{◌∙◌, Err, OnOk, ap, length, subst, sym}
 use Rattle.std.proofs.lemmas.Result.{err_from_is_err_and}
 use Rattle.script_runner.specs.Runs.{BlamesNoScript, HasRun, IsWant, seats_for}
 use Rattle.script_runner.specs.Inside.Players.{players_of}
-use Rattle.script_runner.proofs.Gathering.{sitting_of}
+use Rattle.script_runner.proofs.Gathering.{manned_of}
 use Rattle.script_runner.proofs.Openings.{closed_seated, enough, has_run, has_stopped, of_one, one_found}
 use Rattle.script_runner.proofs.runner.run_shared.Goals as goal
 
@@ -25,7 +25,7 @@ gather-requires-clause-one g c κs =
 pub gather-requires-clause-all : goal.gather-requires-clause-all
 gather-requires-clause-all g c κs =
     let turns = c.in_ok-turns.turns.items in let new = c.in_ok-turns.ensures.new in
-    sitting_of (seats_for (length (players_of turns))) new.commit c.run_phases.new.turns
+    manned_of (seats_for (length (players_of turns))) new.commit c.run_phases.new.turns
     (closed_seated turns c.args.script.now new c.deref_mut-turns.result.now c.run_phases.new.turns c.deref.result.now _ _
     c.deref_mut-turns.ensures.value c.in_ok-run_phases.ensures.written)
 

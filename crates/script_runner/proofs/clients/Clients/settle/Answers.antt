@@ -1,16 +1,16 @@
 use Rattle.std.proofs.Common.{length, subst, sym}
 use Rattle.std.specs.List.{All}
 use Rattle.script_runner.specs.Answering.{players_in}
-use Rattle.script_runner.specs.Inside.Records.{IsSitting}
-use Rattle.script_runner.proofs.Gathering.{sitting_of}
+use Rattle.script_runner.specs.Inside.Records.{IsManned}
+use Rattle.script_runner.proofs.Gathering.{manned_of}
 use Rattle.script_runner.proofs.Steady.{settled_all}
 use Rattle.script_runner.proofs.clients.Clients.settle.Goals as goal
 
 pub gather-requires-clause-all : goal.gather-requires-clause-all
 gather-requires-clause-all g c b m =
     let self = c.args.self in
-    subst (λ ts. All IsSitting ts) (sym c.deref_mut.ensures.value)
-    (sitting_of (length (players_in self)) c.requires.commit self.turns.items c.requires.seated)
+    subst (λ ts. All IsManned ts) (sym c.deref_mut.ensures.value)
+    (manned_of (length (players_in self)) c.requires.commit self.turns.items c.requires.seated)
 
 pub returns : goal.returns
 returns g c =
