@@ -8,9 +8,9 @@
 //!
 //! Decisions. What the clients of a script stand for is plain data (`Player`: a name, and how a place stands), of which
 //! the clause `written` speaks; what a call may tell is `MayAnswerWaiting` of `client_desk`. A client that reads learns
-//! nothing, and others learn from it what it had seen when its reading began. Behind the last phase open readings end, and
-//! the clients learn of each other what they have seen, so that a run has one record (`record`). A client alone in a phase
-//! runs on the caller's thread.
+//! nothing, and others learn from it what it had seen when its reading began. Behind the last phase open readings end,
+//! and the clients learn of each other what they have seen, so that a run has one record (`record`). A client alone in
+//! a phase runs on the caller's thread.
 //!
 //! Not said: why a writer failed, as `Write` says only what was written (tested with streams that fail); how many slots
 //! the group has (told by the scripts of `trials/data/slots`); who moved the head when.
