@@ -36,6 +36,20 @@ class Grows(WithServer):
             self.assertEqual(rows(anna)["counted"], 200)
             anna.close()
 
+    def test_a_group_that_is_opened_again_has_room(self) -> None:
+        words: dict[str, Any] = {"slots": 64, "pusher": offline, "puller": offline, "store": self.store}
+        anna, made = self.rep(**words), 0
+        while anna._kept._opened.places[playing.TELL].slots().ordinary > 8:
+            anna.mutate.once(made % 3)
+            made += 1
+        self.assertEqual(anna._kept.slots, 64)
+        anna.close()
+        anna = self.rep(**words)
+        self.assertEqual((anna._kept.slots, rows(anna)["counted"]), (128, made))
+        with mock.patch.object(groups.KeptGroup, "_grow") as grow:
+            anna.mutate.once(0)
+            grow.assert_not_called()
+
     def test_by_a_pull(self) -> None:
         for words in ({}, {"rules": todo.RULES}):
             self.server.space.mutators = todo.RULES_AT_SERVER if words else todo.MUTATORS

@@ -121,6 +121,12 @@ class Opened:
         self.places, self.slots = places, slots
 
 
+def _has_room(place: Place, slots: int) -> bool:
+    """Whether changes find a quarter of the slots free: else the next ones would have all played once more."""
+    found = place.slots()
+    return 4 * (found.ordinary + found.retired) >= slots
+
+
 class Player:
     """Opens groups of one identity with these mutators or rules, and plays entries in them.
 
@@ -134,7 +140,7 @@ class Player:
         self._readers = range(HOUSE + clients, HOUSE + clients + readers)
 
     def opened(self, entries: list[Entry], slots: int) -> Opened:
-        """A group that is what the entries say, of so many slots, or twice as many, until they are enough.
+        """A group that is what the entries say, of so many slots, or twice as many, until changes have room there.
 
         Raises `Unplayable`, and `TooLarge` where no group has so many.
         """
@@ -142,7 +148,8 @@ class Player:
             places = self._opened(slots)
             try:
                 self._play_in(places, entries)
-                return Opened(places, slots)
+                if 2 * slots > MOST_SLOTS or _has_room(places[TELL], slots):
+                    return Opened(places, slots)
             except Refusal as refusal:
                 if refusal.why in STOPS and refusal.why is not Why.FULL:
                     raise
