@@ -240,7 +240,7 @@ typedef struct giq_opening {
     giq_bytes profile;     /* the profile ID of its requests, UTF-8 */
     giq_bytes schema;      /* the schema version of its requests, UTF-8 */
     giq_bytes rules;       /* mutators as a JSON object (docs/RULES.md), which it runs itself; no bytes: none */
-    uint32_t slots;        /* GIQ_MIN_SLOTS to GIQ_MAX_SLOTS, some 80 bytes each; a group never grows */
+    uint32_t slots;        /* GIQ_MIN_SLOTS to GIQ_MAX_SLOTS, 8 bytes each, 80 once used; a group never grows */
     uint32_t own_mutators; /* what a name without a rule is: 0: a mutator of scripts, 1: of the program's own */
 } giq_opening;
 

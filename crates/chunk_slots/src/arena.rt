@@ -1,31 +1,28 @@
-//! A store whose slots are used again: counted slots, given by the claims table.
-ghost use Rattle.std.specs.Prelude.{◌≡◌, IfOk, IfErr, length};
-ghost use Rattle.std.specs.List.{All};
-ghost use Rattle.group_history.specs.declared.refusals.Refusal.TheVariants.{NoMemory};
-ghost use Rattle.chunk_slots.specs.Inside.Places.{IsOfBook};
-
+//! A store whose slots are used again: counted slots, given by the claims table. They lie in blocks, which are made
+//! when they are first used.
 use crate::arena_seat::ArenaSeat;
-use crate::counted::{Slot, look, put};
+use crate::blocks::Blocks;
+use crate::counted::{look, put};
 use crate::dealt::Dealt;
 use crate::missed::{Busy, StoreStop};
 use crate::opening::{first, placed_leaf, placed_snapshot};
 use crate::placed::Placed;
 use crate::shown::Shown;
 use crate::store::{Slots, Store};
-use counted_slot::Counted;
 use group_history::{Means, Node, Ref, Refusal};
-use head_word::{Head, Mark, Sight};
+use head_word::{Head, Mark};
 use reader_claims::{Claims, Kind, SlotCounts};
 use std::alloc::Global;
 use std::marker::Model;
 
 /// The slots of a group, as many as it was opened with, and which of them are claimed. A retired slot is used again
-/// once no older pin is held. It takes memory when it is opened, and none afterwards.
+/// once no older pin is held. An opening keeps 8 bytes a slot, for the claims. The slots themselves, of 72 bytes, are
+/// made in blocks of 1,024, when a node is first placed in a block; so `place` takes memory until all blocks are there.
+/// A block stays as long as the arena, as a vector keeps its capacity, also where the call that made it is refused.
 #[derive(Drop)]
 pub struct Arena<M: Means> {
     pub(crate) claims: Claims,
-    slots: Vec<Slot<M>>,
-    seen: Sight<M>,
+    slots: Blocks<M>,
 }
 
 impl<M: Means> Model for Arena<M> {
@@ -34,22 +31,9 @@ impl<M: Means> Model for Arena<M> {
 
     ghost Value = { ArenaId };
 
-    ghost view = { λ a. record { claims = a.claims; book = a.seen.book } };
+    ghost view = { λ a. record { claims = a.claims; book = a.slots.book } };
 
-    ghost invariant = { λ a. HasPlaces a.claims a.seen.book a.slots.items };
-}
-
-// An empty place for each slot.
-fn places<M: Means>(alloc: Global, slots: u32, seen: &Sight<M>) -> Result<Vec<Slot<M>>, Refusal>
-    ensures count { IfOk result (λ all. length all.items ≡ slots) }
-    ensures book { IfOk result (λ all. All (IsOfBook seen.now.book) all.items) }
-    ensures err { IfErr result (λ e. e ≡ NoMemory) }
-{
-    let mut all = Vec::with_capacity(alloc, slots as usize)?;
-    for _ in 0..slots {
-        all.push(Counted::new(None, seen))?;
-    }
-    Ok(all)
+    ghost invariant = { λ a. HasPlaces a.claims a.slots };
 }
 
 impl<M: Means> Arena<M> {
@@ -97,13 +81,8 @@ impl<M: Means> Arena<M> {
         ensures book { IfOk result (λ arena. arena.book ≡ mark.now.book) }
         ensures err { IfErr result (λ e. (e ≡ refusal.NoMemory) ⊎ (e ≡ refusal.Busy)) }
     {
-        let seen = mark.sight();
-        let slots = places(alloc, slots, &seen)?;
-        let arena = Arena {
-            claims,
-            slots,
-            seen,
-        };
+        let slots = Blocks::new(alloc, slots, mark)?;
+        let arena = Arena { claims, slots };
         arena.fill_opening(alloc, mark, leaf, commit)?;
         Ok(arena)
     }
@@ -133,36 +112,35 @@ impl<M: Means> Arena<M> {
         ensures content { IfOk result (λ shown. IsContent shown.mark.log stamp shown.node) }
         ensures stamp { IfOk result (λ shown. shown.stamp ≡ stamp) }
     {
-        let Some(slot) = self.slots.get(slot as usize) else {
+        let Some(slot) = self.slots.get(slot) else {
             return Err(StoreStop::Gone);
         };
-        for _ in 1..tries {
+        // One look in the text, so that this is short enough to stand in its callers.
+        for _ in 0..tries.max(1) {
             match look(slot, stamp) {
                 Err(StoreStop::Busy) => {}
                 found => return found,
             }
         }
-        look(slot, stamp)
+        Err(StoreStop::Busy)
     }
 
     #[inline(always)]
-    fn fill(&self, slot: u32, placed: Placed<M>, tries: u32) -> Result<u32, Busy>
+    fn fill(&self, slot: u32, placed: Placed<M>, tries: u32) -> Result<u32, Refusal>
         requires slot { slot < self.now.claims.sizes.slots }
         requires book { placed.mark.book ≡ self.now.book }
-        ensures { IfOk result (λ at. (at < max_slots) × (at ≡ slot)) }
+        ensures slot { IfOk result (λ at. (at < max_slots) × (at ≡ slot)) }
+        ensures err { IfErr result (λ e. (e ≡ refusal.NoMemory) ⊎ (e ≡ refusal.Busy)) }
     {
-        let here = &self.slots[slot as usize];
+        let here = self.slots.get_made(slot, tries)?;
         let mut placed = placed;
-        for _ in 1..tries {
+        for _ in 0..tries.max(1) {
             match put(here, placed) {
                 Ok(()) => return Ok(slot),
                 Err(back) => placed = back,
             }
         }
-        match put(here, placed) {
-            Ok(()) => Ok(slot),
-            Err(_) => Err(Busy),
-        }
+        Err(Refusal::Busy)
     }
 }
 
@@ -198,7 +176,7 @@ impl<M: Means> Slots<M> for Arena<M> {
     }
 
     fn retire(&self, seat: &mut ArenaSeat, slot: u32, r: u64) {
-        if (slot as usize) < self.slots.len() {
+        if slot < self.slots.count() {
             seat.retire(&self.claims, slot, r);
         }
     }
@@ -237,7 +215,7 @@ impl<M: Means> Store<M> for Arena<M> {
         tries: u32,
     ) -> Result<u32, Refusal> {
         seat.within(slot);
-        Ok(self.fill(slot, Placed::new(stamp, node, mark), tries)?)
+        self.fill(slot, Placed::new(stamp, node, mark), tries)
     }
 
     fn take_slot(&self, seat: &mut ArenaSeat, kind: Kind) -> Option<u32> {

@@ -9,20 +9,22 @@
 //! and is handed to `leave`, so no reader stays counted on any way out.
 //!
 //! `Arena` uses its slots again. Which slot is free says the claims table; the calls on slots and pins are its steps. A
-//! slot has 72 bytes: a word, and in place a stamp and the node. `place` is Busy where, as often as it tries, somebody
-//! reads or writes in the slot. `Append` never uses a slot again: a table that only grows, in which a node stands at
-//! the index of its stamp. It is Full where the stamp is no slot number, which its contract tells, and placing a node
-//! may wait. `take_slot` answers slot 0, which means nothing, and the clauses on claims are empty (`reused` is false).
+//! slot has 72 bytes: a word, and in place a stamp and the node. Slots are made in blocks, each when a node is first
+//! placed there (`blocks`). `place` is Busy where, as often as it tries, somebody reads or writes in the slot, or is
+//! putting its block there. `Append` never uses a slot again: a table that only grows, in which a node stands at the
+//! index of its stamp. It is Full where the stamp is no slot number, which its contract tells, and placing a node may
+//! wait. `take_slot` answers slot 0, which means nothing, and the clauses on claims are empty (`reused` is false).
 //!
-//! Only `open` takes memory, and `place` in a table that grows. Calls that always return stand in `Slots`, the other
-//! three in `Store`.
+//! Only `open` and `place` take memory. Calls that always return stand in `Slots`, the other three in `Store`.
 //!
 //! Decisions. Two traits, since a trait says nothing of waiting and a method of a block with the bound `R: Wait` counts
 //! as one that may wait. A store's seat is tied to it by an equation (`serves` of the store, `home` of the seat), which
 //! a generic client can keep. A node lies in its slot and not behind a pointer: a look finds stamp and node side by
-//! side, and placing one takes no memory; it costs 72 bytes in a free slot too, and an opening touches 80 bytes a slot,
-//! with its word. Few nodes in many slots would change that. An arena's opening may be Busy or Full by its contract,
-//! though neither comes: that a put into an empty slot is won is no clause.
+//! side, and placing one takes memory only where it makes a block; it costs 72 bytes in a free slot of a block too. An
+//! opening writes the claims, of which 8 bytes a slot stay, and the blocks of its two nodes. So a look loads where its
+//! block lies, one step more than slots in one piece would take; those would be written at the opening, 40 ms and 75
+//! MB for a million. An arena's opening may be Busy or Full by its contract, though neither comes: that a put into an
+//! empty slot is won is no clause.
 //!
 //! Not said by any clause, and tested: that a call succeeds; that a node which was placed is shown, as no clause tells
 //! what a slot's word holds; so also that a reader who holds a pin never meets Gone (five threads on 64 slots). The
@@ -34,6 +36,7 @@
 mod append;
 mod arena;
 mod arena_seat;
+mod blocks;
 mod counted;
 mod dealt;
 mod missed;

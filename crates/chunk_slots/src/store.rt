@@ -149,7 +149,8 @@ pub trait Store<M: Means>: Slots<M> {
             ⊎ (Self.reused × ((e ≡ refusal.Busy) ⊎ (e ≡ refusal.Full)))) };
 
     /// Puts the node under the stamp. The answer is the slot number that the node's `Ref` bears, so
-    /// children are placed before their parents.
+    /// children are placed before their parents. It takes memory for slots that were not used yet; a
+    /// store keeps that, also where the call is refused then.
     fn place(
         &self,
         seat: &mut Self::Seat,
@@ -165,8 +166,8 @@ pub trait Store<M: Means>: Slots<M> {
         requires drawn { IsContent mark.now.log stamp node }
         ensures seat { seat.new ≡ seat.old }
         ensures slot { IfOk result (λ at. (at < max_slots) × (Self.reused → at ≡ slot)) }
-        ensures err { IfErr result (λ e. (Self.reused × (e ≡ refusal.Busy))
-            ⊎ ((Self.reused → ⊥) × ((e ≡ refusal.NoMemory) ⊎ ((e ≡ refusal.Full) × (max_slots ≤ stamp))))) };
+        ensures err { IfErr result (λ e. (e ≡ refusal.NoMemory) ⊎ (Self.reused × (e ≡ refusal.Busy))
+            ⊎ ((Self.reused → ⊥) × (e ≡ refusal.Full) × (max_slots ≤ stamp))) };
 
     /// Takes a slot to place a node in. A reserved one is taken only where no ordinary one was free or
     /// could be given, but for those that other seats were quicker to take: by a pass of this call, or

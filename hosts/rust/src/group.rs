@@ -19,7 +19,8 @@ pub struct Group<'a> {
     /// Whether a name that has no rule is a mutator of the program's own: changes of such are made by
     /// [`Place::mutate_with`] and [`Place::end_pull_with`]. Else it is a mutator of scripts.
     pub own_mutators: bool,
-    /// 16 to 16,777,216, of some 80 bytes each. A group never grows: `docs/USING.md` says how many to ask for.
+    /// 16 to 16,777,216, of 8 bytes each, and of 80 once they are used. A group never grows: `docs/USING.md` says how
+    /// many to ask for.
     pub slots: u32,
 }
 

@@ -847,11 +847,11 @@ class Group:
     """A client group that lives in memory and starts empty, and its places.
 
     It is opened with its ID, a UUID, the profile ID and the schema version of its requests, 16 to 16,777,216 slots of
-    some 80 bytes each, and 1 to 256 places. Its mutators are data (`rules`: `docs/RULES.md`), functions of the program
-    (`mutators`), or both; ValueError where a name is one of each. Without `mutators` a name that has no rule is a
-    mutator of scripts. A group never grows: `docs/USING.md` says how many slots to ask for. It starts empty, so its
-    clients need IDs that no group had before: see `Place.sit`. `Replicache` has groups that grow and that outlive their
-    process.
+    8 bytes each, and of 80 once they are used, and 1 to 256 places. Its mutators are data (`rules`: `docs/RULES.md`),
+    functions of the program (`mutators`), or both; ValueError where a name is one of each. Without `mutators` a name
+    that has no rule is a mutator of scripts. A group never grows: `docs/USING.md` says how many slots to ask for. It
+    starts empty, so its clients need IDs that no group had before: see `Place.sit`. `Replicache` has groups that grow
+    and that outlive their process.
     """
 
     def __init__(

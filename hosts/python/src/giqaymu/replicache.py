@@ -212,7 +212,8 @@ class Replicache:
     - `store` (Replicache: `name`, in IndexedDB): a folder where the group outlives the process. A folder is for one
       user and one server. None: the group lives in memory.
     - `durability` (not Replicache's): `fsync` or `write`: what a mutation has reached when it returns (`store.py`).
-    - `clients`: how many clients may be open at once, 1 to 251. `slots`: with how many the group begins; it grows.
+    - `clients`: how many clients may be open at once, 1 to 251. `slots`: with how many the group begins, of 8 bytes
+      each until they are used; it grows.
 
     Callbacks, on a thread of their own:
 
@@ -247,7 +248,7 @@ class Replicache:
         store: str | Path | None = None,
         durability: Durability = "fsync",
         clients: int = 16,
-        slots: int = 1 << 14,
+        slots: int = 1 << 18,
         on_online_change: Callable[[bool], None] | None = None,
         on_sync: Callable[[bool], None] | None = None,
         on_update_needed: Callable[[UpdateNeeded], None] | None = None,

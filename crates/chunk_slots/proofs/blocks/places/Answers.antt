@@ -3,7 +3,7 @@ use Rattle.std.specs.List.{All}
 use Rattle.std.proofs.lemmas.List.Elements.{All-push}
 use Rattle.head_word.specs.Marks.{Known}
 use Rattle.chunk_slots.specs.Inside.Places.{IsOfBook}
-use Rattle.chunk_slots.proofs.arena.places.Goals as goal
+use Rattle.chunk_slots.proofs.blocks.places.Goals as goal
 
 pub loop-preserved : goal.loop-preserved
 loop-preserved g c =

@@ -1,7 +1,7 @@
 use Rattle.std.proofs.Common.{◌≡◌, length}
 use Rattle.std.specs.List.{All}
 use Rattle.chunk_slots.specs.Inside.Places.{IsOfBook}
-use Rattle.chunk_slots.proofs.arena.places.Given as goal
+use Rattle.chunk_slots.proofs.blocks.places.Given as goal
 
 abbrev pub invariant-loop : goal.invariant-loop
 invariant-loop g l = record {
