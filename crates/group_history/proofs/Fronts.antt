@@ -1,6 +1,7 @@
 -- Texts are ordered as the numbers of their first bytes are.
 use Rattle.std.proofs.Common.{◌≡◌, ◌≢◌, ◌<◌, ◌≤◌, ◌+◌, ◌*◌, ℕ, zero, suc, [], ◌∷◌, length, get_or, take, drop, refl}
-use Rattle.std.proofs.Common.{sym, ap, ◌∙◌, subst, arith, Ordering, Less, Equal, Greater, nat_cmp, nat_lt, true, true≢false}
+use Rattle.std.proofs.Common.{sym, ap, ◌∙◌, subst, arith, Ordering, Less, Equal, Greater, nat_cmp, nat_lt, true}
+use Rattle.std.proofs.Common.{false, true≢false}
 use Rattle.std.proofs.lemmas.Bool.{lt-ltb, le-ltb}
 use Rattle.std.specs.Prelude.{replicate}
 use Rattle.std.specs.Int.{w128, from_be_bytes}
@@ -169,6 +170,53 @@ front-decides xs ys m n o p q a b e ne =
     apart s =
         let level : o ≡ Equal = e ∙ sym (nat_cmp_is m n Equal (p ∙ s ∙ sym q)) in
         true≢false (sym ne ∙ ap is_ne level)
+
+-- ---- of two short texts with the same front the longer one is above
+
+both-more : (m n : ℕ) (o : Ordering) → MatchOrdering o (m < n) (m ≡ n) (n < m) → o ≡ nat_cmp (suc m) (suc n)
+both-more m n Less l = nat_cmp_is (suc m) (suc n) Less (omega (arith, l))
+both-more m n Equal l = nat_cmp_is (suc m) (suc n) Equal (omega (arith, l))
+both-more m n Greater l = nat_cmp_is (suc m) (suc n) Greater (omega (arith, l))
+
+short-same : (k n : ℕ) (xs ys : Bytes) → AreBytes xs → AreBytes ys → length xs ≤ k → length ys ≤ k
+    → followed k n xs ≡ followed k n ys → slice_cmp nat_cmp xs ys ≡ nat_cmp (length xs) (length ys)
+unfolding followed
+short-same k n [] [] a b lx ly e = nat_cmp_is 0 0 Equal refl
+short-same k n [] (y ∷ ys) a b lx ly e = nat_cmp_is 0 (suc (length ys)) Less (omega arith)
+short-same k n (x ∷ xs) [] a b lx ly e = nat_cmp_is (suc (length xs)) 0 Greater (omega arith)
+short-same zero n (x ∷ xs) (y ∷ ys) a b lx ly e = absurd (omega (arith, lx))
+short-same (suc k) n (x ∷ xs) (y ∷ ys) a b lx ly e =
+    by (short-same k (n * 256 + x) xs ys (λ i. a (suc i)) (λ i. b (suc i)) (omega (arith, lx)) (omega (arith, ly)))
+    (nat_cmp x y) refl (ranks x y)
+  where
+    by : (followed k (n * 256 + x) xs ≡ followed k (n * 256 + x) ys
+        → slice_cmp nat_cmp xs ys ≡ nat_cmp (length xs) (length ys))
+        → (r : Ordering) → nat_cmp x y ≡ r → MatchOrdering r (x < y) (x ≡ y) (y < x)
+        → slice_cmp nat_cmp (x ∷ xs) (y ∷ ys) ≡ nat_cmp (suc (length xs)) (suc (length ys))
+    by rest Less c l =
+        let low = followed-less k (n * 256 + x) (n * 256 + y) xs ys (λ i. a (suc i)) (omega (arith, l)) in
+        absurd (omega (arith, low, e))
+    by rest Greater c l =
+        let low = followed-less k (n * 256 + y) (n * 256 + x) ys xs (λ i. b (suc i)) (omega (arith, l)) in
+        absurd (omega (arith, low, e))
+    by rest Equal c l =
+        let same : n * 256 + y ≡ n * 256 + x = omega (arith, l) in
+        ap (λ r. ordering_then r (slice_cmp nat_cmp xs ys)) c ∙ rest (e ∙ ap (λ m. followed k m ys) same)
+        ∙ both-more (length xs) (length ys) (nat_cmp (length xs) (length ys)) (ranks (length xs) (length ys))
+
+same_by : (m n : ℕ) (o : Ordering) → nat_cmp m n ≡ o → MatchOrdering o (m < n) (m ≡ n) (n < m) → is_ne o ≡ false
+    → m ≡ n
+same_by m n Less e l ne = absurd (true≢false ne)
+same_by m n Equal e l ne = l
+same_by m n Greater e l ne = absurd (true≢false ne)
+
+pub short-decides : (xs ys : Bytes) (m n : ℕ) (o : Ordering) → m ≡ front_of xs → n ≡ front_of ys → AreBytes xs
+    → AreBytes ys → o ≡ nat_cmp m n → is_ne o ≡ false → length xs ≤ 16 → length ys ≤ 16
+    → nat_cmp (length xs) (length ys) ≡ slice_cmp nat_cmp xs ys
+short-decides xs ys m n o p q a b e ne lx ly =
+    let ranked = subst (λ w. MatchOrdering w (m < n) (m ≡ n) (n < m)) (sym e) (ranks m n) in
+    let same = same_by m n o (sym e) ranked ne in
+    sym (short-same 16 0 xs ys a b lx ly (sym (front-followed xs) ∙ sym p ∙ same ∙ q ∙ front-followed ys))
 
 below_greater : (m n : ℕ) (o : Ordering) → nat_cmp m n ≡ o → MatchOrdering o (m < n) (m ≡ n) (n < m)
     → nat_lt n m ≡ is_gt (nat_cmp m n)

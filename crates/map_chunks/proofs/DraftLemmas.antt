@@ -1,5 +1,6 @@
 -- References with low stamps, and nodes that stand behind their children.
-use Rattle.std.proofs.Common.{◌≡◌, ◌<◌, ◌≤◌, ◌+◌, ℕ, zero, suc, List, [], ◌∷◌, ◌++◌, length, take, ap, sym, subst, arith}
+use Rattle.std.proofs.Common.{◌≡◌, ◌<◌, ◌≤◌, ◌+◌, ℕ, zero, suc, List, [], ◌∷◌, ◌++◌, length, take, ap}
+use Rattle.std.proofs.Common.{sym, subst, arith}
 use Rattle.std.proofs.Common.{◌≢◌, ◌∙◌}
 use Rattle.std.proofs.lemmas.List.{length-append, length-take}
 use Rattle.group_history.specs.declared.nodes.Node.{Node}

@@ -35,7 +35,8 @@ pub needed-more : (n : ℕ) (cs : List (Node Ref)) (xs ys : List Ref) → AreIn 
     → AreNeeded n cs ys
 needed-more n [] xs ys i h = tt
 needed-more n (c ∷ cs) xs ys i h = (
-  stamped-more n (flat_map children cs ++ xs) (flat_map children cs ++ ys) (in-before xs ys (flat_map children cs) i) h.0,
+  stamped-more n (flat_map children cs ++ xs) (flat_map children cs ++ ys)
+      (in-before xs ys (flat_map children cs) i) h.0,
   needed-more (suc n) cs xs ys i h.1,
 )
 
@@ -102,4 +103,5 @@ adds_next ats at old mid new p q others h = needed-more new.first new.nodes (at 
 -- all of a draft that had no node
 pub needed_begun : (these : List Ref) (at : Ref) (n : ℕ) (old new : Drafted) → old ≡ record { first = n; nodes = [] }
     → AddsNeeded these (at ∷ []) old new → AreNeeded new.first new.nodes (at ∷ [])
-needed_begun these at n old new is p = p [] (subst (λ (d : Drafted). AreNeeded d.first d.nodes (these ++ [])) (sym is) tt)
+needed_begun these at n old new is p =
+    p [] (subst (λ (d : Drafted). AreNeeded d.first d.nodes (these ++ [])) (sym is) tt)

@@ -69,7 +69,8 @@ deep_rows q k d t h =
     let n = known (chunk_rows q k) t in
     let s = spells_rows q k n.rows n.is in
     let e : s.segment.depth ≡ d = some_is (ap (option_map (λ (x : Segment). x.depth)) (sym s.is) ∙ h) in
-    ap (λ w. rows_at q w k) (sym e) ∙ rows_at-segment q k s.segment s.is ∙ ap (λ w. Some w) (s.rows ∙ ap rows_or (sym n.is))
+    ap (λ w. rows_at q w k) (sym e) ∙ rows_at-segment q k s.segment s.is
+    ∙ ap (λ w. Some w) (s.rows ∙ ap rows_or (sym n.is))
 
 -- a placed chunk keeps its rows and its depth
 pub rows_later : (p q : Contents) (k : ℕ) → IsPrefix p q → IsTree (chunk_rows p k) → chunk_rows q k ≡ chunk_rows p k

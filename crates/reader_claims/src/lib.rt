@@ -38,8 +38,8 @@
 //!
 //! Not said: the contract doesn't explain a false `give` that attempted no exchange, as a plain load proves nothing
 //! that lasts. That a held slot stays held where somebody retires it too early: `retire` asks that its number is above
-//! the epoch loaded, and that nobody can find the slot any more is for the layers above (`joined_machine`). That a call
-//! ever finds a slot. That a slot is given is no deed: it is noted, and notes go where the epoch is loaded again.
+//! the epoch loaded, and that nobody can find the slot any more is for the layers above (`reclamation_law`). That a
+//! call ever finds a slot. That a slot is given is no deed: it is noted, and notes go where the epoch is loaded again.
 #![tactic(auto)]
 
 mod claims;

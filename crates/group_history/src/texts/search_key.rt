@@ -45,6 +45,10 @@ impl<'a> SearchKey<'a> {
             if order.is_ne() {
                 return order;
             }
+            let (len, own) = (short.as_str().len(), self.text.len());
+            if len <= 16 && own <= 16 {
+                return len.cmp(&own);
+            }
         }
         text.as_str().cmp(self.text)
     }
