@@ -71,7 +71,7 @@ whole_from_tests true true s t e = absurd (cc)
 whole_from_tests true false s t e = cc
 whole_from_tests false b s t e = absurd (cc)
 
-whole_from_text : (d : Data) (t : List ℕ) → text_of d ≡ Ok t → whole_text d ≡ Some t
+pub whole_from_text : (d : Data) (t : List ℕ) → text_of d ≡ Ok t → whole_text d ≡ Some t
 unfolding text_of
 whole_from_text d t e = whole_from_tests _ (has_float d) (compact_text d) t e
 

@@ -12,3 +12,4 @@ mod CopiedTexts
 mod Turns
 mod Patches
 mod PlainResponses
+mod Trees

@@ -10,7 +10,7 @@ use Rattle.serde_json.proofs.Views.{get_member-put, get_member-put_other}
 use Rattle.group_history.specs.declared.responses.Patch.{Patch}
 use Rattle.group_history.specs.declared.responses.Patch.TheVariants as patch
 use Rattle.group_history.specs.Cookies.{whole_text}
-use Rattle.pull_patch.specs.declared.plain.puts.Found.{Found}
+use Rattle.pull_patch.specs.declared.plain.puts.OperationParts.{OperationParts}
 use Rattle.pull_patch.specs.Fields.{each, items_list}
 use Rattle.pull_patch.specs.Operations as operations
 use Rattle.pull_patch.specs.Operations.{edit_of, edits_of, put_of, del_of, edit_named, operation_of}
@@ -43,7 +43,8 @@ value_kept k d ms other (Some t) h = record {
   whole = h.whole;
 }
 
-pub found_op : (f : Found) (s : Bor (List ℕ)) (name : List ℕ) (ms : Members) → bytes_eq name (codes "op") ≡ true
+pub found_op : (f : OperationParts) (s : Bor (List ℕ)) (name : List ℕ) (ms : Members)
+    → bytes_eq name (codes "op") ≡ true
     → IsFoundIn f ms → IsFoundIn (record f { op = Some s }) (put name (string s.now) ms)
 found_op f s name ms test h =
     subst (λ (k : List ℕ). IsFoundIn (record f { op = Some s }) (put k (string s.now) ms))
@@ -55,7 +56,8 @@ found_op f s name ms test h =
           (names_differ (codes "value") (codes "op") refl) f.value h.value;
     }
 
-pub found_key : (f : Found) (s : Bor (List ℕ)) (name : List ℕ) (ms : Members) → bytes_eq name (codes "key") ≡ true
+pub found_key : (f : OperationParts) (s : Bor (List ℕ)) (name : List ℕ) (ms : Members)
+    → bytes_eq name (codes "key") ≡ true
     → IsFoundIn f ms → IsFoundIn (record f { key = Some s }) (put name (string s.now) ms)
 found_key f s name ms test h =
     subst (λ (k : List ℕ). IsFoundIn (record f { key = Some s }) (put k (string s.now) ms))
@@ -67,7 +69,7 @@ found_key f s name ms test h =
           (names_differ (codes "value") (codes "key") refl) f.value h.value;
     }
 
-pub found_value : (f : Found) (t : List ℕ) (d : Data) (name : List ℕ) (ms : Members)
+pub found_value : (f : OperationParts) (t : List ℕ) (d : Data) (name : List ℕ) (ms : Members)
     → bytes_eq name (codes "value") ≡ true → whole_text d ≡ Some t → IsFoundIn f ms
     → IsFoundIn (record f { value = Some t }) (put name d ms)
 found_value f t d name ms test is h =
@@ -81,7 +83,7 @@ found_value f t d name ms test is h =
 pub other_way : (a b : List ℕ) → bytes_eq a b ≡ false → b ≢ a
 other_way a b test same = names_differ a b test (sym same)
 
-pub found_other : (f : Found) (d : Data) (name : List ℕ) (ms : Members) → bytes_eq name (codes "op") ≡ false
+pub found_other : (f : OperationParts) (d : Data) (name : List ℕ) (ms : Members) → bytes_eq name (codes "op") ≡ false
     → bytes_eq name (codes "key") ≡ false → bytes_eq name (codes "value") ≡ false → IsFoundIn f ms
     → IsFoundIn f (put name d ms)
 found_other f d name ms op key value h = record {

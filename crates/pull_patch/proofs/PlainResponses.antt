@@ -15,7 +15,7 @@ use Rattle.group_history.specs.declared.responses.Response.TheVariants as respon
 use Rattle.group_history.specs.Answers.{◌>>=◌}
 use Rattle.group_history.specs.Cookies.{Cookie}
 use Rattle.group_history.specs.Pull.{AreInRange}
-use Rattle.pull_patch.specs.declared.plain.Parts.{Parts}
+use Rattle.pull_patch.specs.declared.plain.ResponseParts.{ResponseParts}
 use Rattle.pull_patch.specs.Changes.{Entry, entries_of, change_of}
 use Rattle.pull_patch.specs.Fields.{each, ◌>>-◌}
 use Rattle.pull_patch.specs.Grammar.{is_cookie, cookie_at, fields_of, pull_of, pull_response, by_error, response_of}
@@ -63,7 +63,7 @@ error_kept : (k : List ℕ) (d : Data) (ms : Members) → codes "error" ≢ k �
     → get_member (codes "error") (put k d ms) ≡ None
 error_kept k d ms other h = get_member-put_other (codes "error") k d ms other ∙ h
 
-pub parts_patch : (p : Parts) (v : Vec Patch Global) (ds : Items) (name : List ℕ) (ms : Members)
+pub parts_patch : (p : ResponseParts) (v : Vec Patch Global) (ds : Items) (name : List ℕ) (ms : Members)
     → bytes_eq name (codes "patch") ≡ true → ArePatch ds v.items → ArePartsOf p ms
     → ArePartsOf (record p { patch = Some v }) (put name (array ds) ms)
 parts_patch p v ds name ms test are h =
@@ -78,7 +78,7 @@ parts_patch p v ds name ms test are h =
           (names_differ (codes "error") (codes "patch") refl) h.no_error;
     }
 
-pub parts_cookie : (p : Parts) (c : Cookie) (d : Data) (name : List ℕ) (ms : Members)
+pub parts_cookie : (p : ResponseParts) (c : Cookie) (d : Data) (name : List ℕ) (ms : Members)
     → bytes_eq name (codes "cookie") ≡ true → IsCookie d c → ArePartsOf p ms
     → ArePartsOf (record p { cookie = Some c }) (put name d ms)
 parts_cookie p c d name ms test is h =
@@ -91,7 +91,7 @@ parts_cookie p c d name ms test is h =
       no_error = error_kept (codes "cookie") d ms (names_differ (codes "error") (codes "cookie") refl) h.no_error;
     }
 
-pub parts_changes : (p : Parts) (v : Vec Confirmed Global) (d : Data) (name : List ℕ) (ms : Members)
+pub parts_changes : (p : ResponseParts) (v : Vec Confirmed Global) (d : Data) (name : List ℕ) (ms : Members)
     → bytes_eq name (codes "lastMutationIDChanges") ≡ true → AreChanges d v.items → AreInRange v.items → ArePartsOf p ms
     → ArePartsOf (record p { changes = Some v }) (put name d ms)
 parts_changes p v d name ms test are in_range h =
@@ -111,7 +111,7 @@ parts_changes p v d name ms test are in_range h =
           (names_differ (codes "error") (codes "lastMutationIDChanges") refl) h.no_error;
     }
 
-pub parts_other : (p : Parts) (d : Data) (name : List ℕ) (ms : Members) → bytes_eq name (codes "patch") ≡ false
+pub parts_other : (p : ResponseParts) (d : Data) (name : List ℕ) (ms : Members) → bytes_eq name (codes "patch") ≡ false
     → bytes_eq name (codes "error") ≡ false → bytes_eq name (codes "cookie") ≡ false
     → bytes_eq name (codes "lastMutationIDChanges") ≡ false → ArePartsOf p ms → ArePartsOf p (put name d ms)
 parts_other p d name ms patch error cookie changes h = record {
@@ -169,7 +169,7 @@ joined_by ms (Some o) None ps r e error a b c = absurd (cc)
 joined_by ms (Some o) (Some cs) None r e error a b c = absurd (cc)
 joined_by ms (Some o) (Some cs) (Some ps) r e error a b c = joined_response ms o cs.items ps.items error a b c ∙ e
 
-pub joined_parts : (ms : Members) (p : Parts) (r : Response)
+pub joined_parts : (ms : Members) (p : ResponseParts) (r : Response)
     → joined p.cookie (option_map (λ v. v.items) p.changes) (option_map (λ v. v.items) p.patch) ≡ Ok r → ArePartsOf p ms
     → response_of (object ms) ≡ Ok r
 joined_parts ms p r e h = joined_by ms p.cookie p.changes p.patch r e h.no_error h.cookie h.changes h.patch

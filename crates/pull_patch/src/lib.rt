@@ -7,10 +7,14 @@
 //! `specs/Grammar.antt`, and `read_response` answers that, for every byte string.
 //!
 //! Decisions. Two readers, since a tree of a body takes up to 37 bytes for each of its bytes. A put's value is written
-//! again from its tokens, and that is its compact text where its names ascend and its numbers are whole; only where it
-//! isn't, this one value is read by `serde_json`, which goes down one call a level and stops at 128: a body 126 deep
-//! needs a stack of 160 kB, and with 64 kB the program dies at 40 levels. `plain_response` refuses nothing but for want
-//! of memory. No clause says which bodies are plain, and no proof bounds a stack.
+//! again from its tokens, and that is its compact text where its names ascend and its numbers are whole. Servers that
+//! are written in JavaScript keep names as they were made; so where the names of an earlier value didn't ascend, one
+//! is read as a tree from its tokens (`plain/trees.rt`), and so is the first, which tells how the names stand. The
+//! cookie and the ids are read so too: `serde_json` reads a tree from a text alone, and clears 16 kB for each. That is
+//! done once at most, at the first value whose names don't ascend behind one where they did.
+//!
+//! Both ways go down a call or two a level, and stop at 128: a body 123 deep needs a stack of 190 kB. `plain_response`
+//! refuses nothing but for want of memory. No clause says which bodies are plain, and no proof bounds a stack.
 //!
 //! A run's writes are a bare list of a patch's operations `put` and `del` (`writes`), read as a tree.
 //!

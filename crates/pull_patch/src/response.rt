@@ -10,7 +10,7 @@ ghost use Rattle.pull_patch.specs.Inside.Parts as parts;
 use crate::changes::read_changes;
 use crate::fields::{array_at, text_at};
 use crate::operations::read_patch;
-use crate::plain::{Stop, plain_response};
+use crate::plain::{PlainStop, plain_response};
 use group_history::{Confirmed, Cookie, Patch, PullOk, Refusal, Response, VersionKind, read_value};
 use serde_json::Value;
 use std::alloc::Global;
@@ -163,8 +163,8 @@ pub fn read_response(alloc: Global, bytes: &[u8]) -> Result<Response, Refusal>
 {
     match plain_response(alloc, bytes) {
         Ok(response) => return Ok(response),
-        Err(Stop::NoMemory) => return Err(Refusal::NoMemory),
-        Err(Stop::NotPlain) => {}
+        Err(PlainStop::NoMemory) => return Err(Refusal::NoMemory),
+        Err(PlainStop::NotPlain) => {}
     }
     let value = read_value(alloc, bytes)?;
     response_of(alloc, &value)

@@ -1,6 +1,7 @@
 //! What a run writes, where it comes as bytes: a bare list of operations, as in a patch but without `clear`.
 //!
-//! The list is read as a tree. As in a response, the shape of all is looked at before a number that isn't whole is told.
+//! The list is read as a tree. As in a response, the shape of all is looked at before a number that isn't whole is
+//! told.
 ghost use Rattle.std.specs.Prelude.{◌≡◌, ◌≤◌, option_map, IfOk};
 ghost use Rattle.serde_json.specs.Data.{items_depth};
 ghost use Rattle.serde_json.specs.View.{view, items_view};

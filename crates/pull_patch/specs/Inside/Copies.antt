@@ -12,6 +12,12 @@ use Rattle.serde_json.specs.Read.{number_of, of_json, of_items, of_members}
 use Rattle.serde_json.specs.Written.{number_text, outline, items_outline, members_outline}
 use Rattle.serde_json.specs.Written.{has_float, items_have_float, members_have_float}
 
+-- the text is the one that is written for a number
+pub record IsNumberText (s : List ℕ) (num : Num) : Type 0 where
+  pub reads : number_of s ≡ Some num
+  pub same : number_text num ≡ s
+  pub whole : is_float num ≡ false
+
 -- a number's text is the one that is written for it
 pub record IsPlainNumber (s : List ℕ) : Type 0 where
   pub num : Num

@@ -11,8 +11,8 @@ use Rattle.group_history.specs.declared.responses.Response.{Response}
 use Rattle.group_history.specs.Cookies.{Cookie, whole_text, cookie_of}
 use Rattle.group_history.specs.Map.{Bytes}
 use Rattle.group_history.specs.Pull.{AreInRange}
-use Rattle.pull_patch.specs.declared.plain.Parts.{Parts}
-use Rattle.pull_patch.specs.declared.plain.puts.Found.{Found}
+use Rattle.pull_patch.specs.declared.plain.ResponseParts.{ResponseParts}
+use Rattle.pull_patch.specs.declared.plain.puts.OperationParts.{OperationParts}
 use Rattle.pull_patch.specs.Changes.{Entry, entries_of, change_of}
 use Rattle.pull_patch.specs.Fields.{each, ◌>>-◌}
 use Rattle.pull_patch.specs.Grammar.{cookie_at, response_of}
@@ -51,13 +51,13 @@ pub record IsValue (ms : Members) (text : Bytes) : Type 0 where
   pub whole : whole_text tree ≡ Some text
 
 -- what was found is in the object of these members
-pub record IsFoundIn (f : Found) (ms : Members) : Type 0 where
+pub record IsFoundIn (f : OperationParts) (ms : Members) : Type 0 where
   pub op : IfSome f.op (λ s. IsText (codes "op") ms s.now)
   pub key : IfSome f.key (λ s. IsText (codes "key") ms s.now)
   pub value : IfSome f.value (λ t. IsValue ms t)
 
 -- a value goes to a name, and what was found goes with it
-pub record ReadsField (old : List Token) (name : Bytes) (f g : Found) (new : List Token) : Type 0 where
+pub record ReadsField (old : List Token) (name : Bytes) (f g : OperationParts) (new : List Token) : Type 0 where
   pub tree : Data
   pub reads : ReadsValue 124 old tree new
   pub found : (ms : Members) → IsFoundIn f ms → IsFoundIn g (put name tree ms)
@@ -67,7 +67,7 @@ pub record IsOperation (d : Data) (p : Patch) : Type 0 where
   pub shape : edit_of d ≡ Some edit
   pub says : operation_of edit ≡ Some p
 
-pub record ReadsFields (old : List Token) (f : Found) (new : List Token) : Type 0 where
+pub record ReadsFields (old : List Token) (f : OperationParts) (new : List Token) : Type 0 where
   pub tree : Members
   pub reads : ReadsMembers 124 old tree new
   pub found : IsFoundIn f tree
@@ -131,19 +131,19 @@ pub record HasPatch (ms : Members) (ps : List Patch) : Type 0 where
   pub are : ArePatch tree ps
 
 -- the parts are in the object of these members, which has no error
-pub record ArePartsOf (p : Parts) (ms : Members) : Type 0 where
+pub record ArePartsOf (p : ResponseParts) (ms : Members) : Type 0 where
   pub cookie : IfSome p.cookie (λ c. HasCookie ms c)
   pub changes : IfSome p.changes (λ v. HasChanges ms v.items)
   pub patch : IfSome p.patch (λ v. HasPatch ms v.items)
   pub no_error : get_member (codes "error") ms ≡ None
 
 -- a value goes to a name, and the parts go with it
-pub record ReadsPart (old : List Token) (name : Bytes) (p q : Parts) (new : List Token) : Type 0 where
+pub record ReadsPart (old : List Token) (name : Bytes) (p q : ResponseParts) (new : List Token) : Type 0 where
   pub tree : Data
   pub reads : ReadsValue 126 old tree new
   pub parts : (ms : Members) → ArePartsOf p ms → ArePartsOf q (put name tree ms)
 
-pub record ReadsParts (old : List Token) (p : Parts) (new : List Token) : Type 0 where
+pub record ReadsParts (old : List Token) (p : ResponseParts) (new : List Token) : Type 0 where
   pub tree : Members
   pub reads : ReadsMembers 126 old tree new
   pub parts : ArePartsOf p tree

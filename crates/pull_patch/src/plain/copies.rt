@@ -1,5 +1,5 @@
 //! Values that are copied from token to token, with no tree in between.
-ghost use Rattle.std.specs.Prelude.{◌≡◌, ◌<◌, [], ◌∷◌, length, slice_index, IsTrue, OnOk, IfOk};
+ghost use Rattle.std.specs.Prelude.{◌≡◌, ◌<◌, [], ◌∷◌, length, IsTrue, OnOk, IfOk};
 ghost use Rattle.std.specs.Ordering.{is_lt, nat_cmp};
 ghost use Rattle.std.specs.Cmp.Lexicographic.{slice_cmp};
 ghost use Rattle.std.specs.Str.{IsUtf8};
@@ -8,46 +8,18 @@ ghost use Rattle.json.specs.Token.{begin_array, begin_object};
 ghost use Rattle.pull_patch.specs.Inside.Copies.{IsPlainNumber, CopiesValue, CopiesItems, CopiesMembers};
 ghost use Rattle.pull_patch.specs.Inside.Copies.{CopiesText};
 
-use super::stops::Stop;
+use super::numbers::plain_number;
+use super::stops::PlainStop;
 use super::words::is_before;
-use group_history::is_word;
 use json::{Reader, Token, Writer};
 use std::alloc::Global;
 use std::mem::replace;
 
-// Whether a number's text is the one that is written for it: digits that fit 64 bits, or a minus and such digits, with
-// no 0 before other digits.
+// Whether a number's text is the one that is written for it.
 fn is_plain_number(text: &str) -> bool
     ensures { IsTrue result → IsPlainNumber text.now }
 {
-    if is_word(text, b"0") {
-        return true;
-    }
-    let bytes = text.as_bytes();
-    if bytes.len() > 1 && bytes[0] == b'-' {
-        return is_plain_below_zero(text);
-    }
-    if bytes.is_empty() || bytes[0] < b'1' {
-        return false;
-    }
-    match u64::from_str_radix(text, 10) {
-        Ok(_) => true,
-        Err(_) => false,
-    }
-}
-
-fn is_plain_below_zero(text: &str) -> bool
-    requires { slice_index text.now 0 ≡ 45 }
-    ensures { IsTrue result → IsPlainNumber text.now }
-{
-    let bytes = text.as_bytes();
-    if bytes.len() < 2 || bytes[1] < b'1' {
-        return false;
-    }
-    match i64::from_str_radix(text, 10) {
-        Ok(_) => true,
-        Err(_) => false,
-    }
+    plain_number(text).is_some()
 }
 
 // The tokens of the next value are written again. Told is whether the text of them is its compact text.
@@ -56,13 +28,13 @@ pub(crate) fn copy_value(
     reader: &mut Reader<'_>,
     depth: usize,
     out: &mut Writer,
-) -> Result<bool, Stop>
+) -> Result<bool, PlainStop>
     ensures copied { IfOk result (λ plain. CopiesValue plain
         (value depth reader.old) reader.new out.old.tokens out.new.tokens) }
     ensures shorter { OnOk result (length reader.new < length reader.old) }
     ensures before { out.new.before ≡ out.old.before }
 {
-    let token = reader.next().ok_or(Stop::NotPlain)?;
+    let token = reader.next().ok_or(PlainStop::NotPlain)?;
     match token {
         Token::String(text) => {
             out.string(text)?;
@@ -80,7 +52,7 @@ pub(crate) fn copy_value(
             out.null()?;
             Ok(true)
         }
-        Token::EndObject | Token::EndArray | Token::Key(_) | Token::Bad => Err(Stop::NotPlain),
+        Token::EndObject | Token::EndArray | Token::Key(_) | Token::Bad => Err(PlainStop::NotPlain),
         Token::BeginArray => copy_array(reader, depth, out),
         Token::BeginObject => copy_object(reader, depth, out),
     }
@@ -88,14 +60,14 @@ pub(crate) fn copy_value(
 
 // An array behind its opening bracket.
 #[cycle(copy)]
-fn copy_array(reader: &mut Reader<'_>, depth: usize, out: &mut Writer) -> Result<bool, Stop>
+fn copy_array(reader: &mut Reader<'_>, depth: usize, out: &mut Writer) -> Result<bool, PlainStop>
     ensures copied { IfOk result (λ plain. CopiesValue plain
         (value depth (begin_array ∷ reader.old)) reader.new out.old.tokens out.new.tokens) }
     ensures shorter { OnOk result (length reader.new < length reader.old) }
     ensures before { out.new.before ≡ out.old.before }
 {
     if depth == 0 {
-        return Err(Stop::NotPlain);
+        return Err(PlainStop::NotPlain);
     }
     out.begin_array()?;
     copy_items(reader, depth - 1, out)
@@ -103,21 +75,21 @@ fn copy_array(reader: &mut Reader<'_>, depth: usize, out: &mut Writer) -> Result
 
 // An object behind its opening brace.
 #[cycle(copy)]
-fn copy_object(reader: &mut Reader<'_>, depth: usize, out: &mut Writer) -> Result<bool, Stop>
+fn copy_object(reader: &mut Reader<'_>, depth: usize, out: &mut Writer) -> Result<bool, PlainStop>
     ensures copied { IfOk result (λ plain. CopiesValue plain
         (value depth (begin_object ∷ reader.old)) reader.new out.old.tokens out.new.tokens) }
     ensures shorter { OnOk result (length reader.new < length reader.old) }
     ensures before { out.new.before ≡ out.old.before }
 {
     if depth == 0 {
-        return Err(Stop::NotPlain);
+        return Err(PlainStop::NotPlain);
     }
     out.begin_object()?;
     copy_members(reader, depth - 1, out)
 }
 
 #[cycle(copy)]
-fn copy_items(reader: &mut Reader<'_>, depth: usize, out: &mut Writer) -> Result<bool, Stop>
+fn copy_items(reader: &mut Reader<'_>, depth: usize, out: &mut Writer) -> Result<bool, PlainStop>
     ensures copied { IfOk result (λ plain. CopiesItems plain
         (items (value depth) (length reader.old) reader.old) reader.new out.old.tokens out.new.tokens) }
     ensures shorter { OnOk result (length reader.new < length reader.old) }
@@ -133,7 +105,11 @@ fn copy_items(reader: &mut Reader<'_>, depth: usize, out: &mut Writer) -> Result
 }
 
 #[cycle(copy)]
-fn copy_members<'a>(reader: &mut Reader<'a>, depth: usize, out: &mut Writer) -> Result<bool, Stop>
+fn copy_members<'a>(
+    reader: &mut Reader<'a>,
+    depth: usize,
+    out: &mut Writer,
+) -> Result<bool, PlainStop>
     ensures copied { IfOk result (λ plain. CopiesMembers plain
         (members (value depth) (length reader.old) reader.old) reader.new out.old.tokens out.new.tokens) }
     ensures shorter { OnOk result (length reader.new < length reader.old) }
@@ -157,7 +133,7 @@ pub(crate) fn copy_text(
     reader: &mut Reader<'_>,
     depth: usize,
     text: &mut Vec<u8>,
-) -> Result<bool, Stop>
+) -> Result<bool, PlainStop>
     ensures copied { IfOk result (λ plain. CopiesText plain (value depth reader.old) reader.new text.new.items) }
     ensures shorter { OnOk result (length reader.new < length reader.old) }
     ensures utf8 { OnOk result (IsUtf8 text.new.items) }

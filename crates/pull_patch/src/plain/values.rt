@@ -1,31 +1,31 @@
 //! Single values of a body.
 ghost use Rattle.std.specs.Prelude.{◌≡◌, ◌<◌, ◌≤◌, ℕ, length, OnOk, IfOk, IsUtf8};
 ghost use Rattle.serde_json.specs.Data.{string};
-ghost use Rattle.serde_json.specs.View.{view};
 ghost use Rattle.pull_patch.specs.Inside.Plain.{ReadsValue, ReadsText, PassesValue};
 
 use super::copies::copy_text;
-use super::stops::Stop;
+use super::room::{Names, Room};
+use super::stops::PlainStop;
+use super::trees::read_tree;
 use group_history::{Json, Refusal, read_value};
 use json::{Reader, Token};
-use serde_json::Value;
 use std::alloc::Global;
 
 /// A text.
-pub(crate) fn read_text<'a>(reader: &mut Reader<'a>) -> Result<&'a str, Stop>
+pub(crate) fn read_text<'a>(reader: &mut Reader<'a>) -> Result<&'a str, PlainStop>
     ensures read { IfOk result (λ s. (depth : ℕ) → ReadsValue depth reader.old (string s.now) reader.new) }
     ensures shorter { OnOk result (length reader.new < length reader.old) }
 {
     match reader.next() {
         Some(Token::String(text)) => Ok(text),
-        _ => Err(Stop::NotPlain),
+        _ => Err(PlainStop::NotPlain),
     }
 }
 
-fn stop_of(refusal: Refusal) -> Stop {
+fn stop_of(refusal: Refusal) -> PlainStop {
     match refusal {
-        Refusal::NoMemory => Stop::NoMemory,
-        _ => Stop::NotPlain,
+        Refusal::NoMemory => PlainStop::NoMemory,
+        _ => PlainStop::NotPlain,
     }
 }
 
@@ -37,57 +37,98 @@ fn text_of(bytes: &[u8]) -> &str
     unsafe { str::from_utf8_unchecked(bytes) }
 }
 
-/// The compact text of the next value. Only where it isn't the text of its tokens as they stand, the
-/// value is read as a tree. What `copy` holds is overwritten.
-pub(crate) fn read_json(
+// The compact text of the next value, in whatever order its names stand.
+fn read_by_tree(
     alloc: Global,
     reader: &mut Reader<'_>,
-    copy: &mut Vec<u8>,
-) -> Result<Json, Stop>
+    ascends: &mut bool,
+) -> Result<Json, PlainStop>
     ensures read { IfOk result (λ t. ReadsText reader.old t reader.new) }
     ensures shorter { OnOk result (length reader.new < length reader.old) }
 {
-    let plain = copy_text(alloc, reader, 124, copy)?;
-    if !plain {
-        return match Json::read(alloc, copy) {
-            Ok(json) => Ok(json),
-            Err(refusal) => Err(stop_of(refusal)),
-        };
-    }
-    Ok(Json::of_compact(alloc, text_of(copy))?)
-}
-
-/// The next value as a tree. What `copy` holds is overwritten.
-pub(crate) fn read_tree(
-    alloc: Global,
-    reader: &mut Reader<'_>,
-    depth: usize,
-    copy: &mut Vec<u8>,
-) -> Result<Value, Stop>
-    requires { depth ≤ 127 }
-    ensures read { IfOk result (λ v. ReadsValue depth reader.old (view v) reader.new) }
-    ensures shorter { OnOk result (length reader.new < length reader.old) }
-{
-    copy_text(alloc, reader, depth, copy)?;
-    match read_value(alloc, copy) {
-        Ok(value) => Ok(value),
+    let value = read_tree(alloc, reader, 124, ascends)?;
+    match Json::of(alloc, &value) {
+        Ok(json) => Ok(json),
         Err(refusal) => Err(stop_of(refusal)),
     }
 }
 
-/// Passes over the next value, where it is plain. What `copy` holds is overwritten.
+// The compact text of the next value, which is that of its tokens as they stand if its names ascend. If they don't, the
+// text is read anew, and that clears 16 kB: so the values behind are read as trees from their tokens.
+fn read_by_copy(alloc: Global, reader: &mut Reader<'_>, room: &mut Room) -> Result<Json, PlainStop>
+    ensures read { IfOk result (λ t. ReadsText reader.old t reader.new) }
+    ensures shorter { OnOk result (length reader.new < length reader.old) }
+{
+    let plain = copy_text(alloc, reader, 124, &mut room.text)?;
+    if !plain {
+        room.names = Names::Vary;
+        return match Json::read(alloc, &room.text) {
+            Ok(json) => Ok(json),
+            Err(refusal) => Err(stop_of(refusal)),
+        };
+    }
+    Ok(Json::of_compact(alloc, text_of(&room.text))?)
+}
+
+/// The compact text of the next value.
+pub(crate) fn read_json(
+    alloc: Global,
+    reader: &mut Reader<'_>,
+    room: &mut Room,
+) -> Result<Json, PlainStop>
+    ensures read { IfOk result (λ t. ReadsText reader.old t reader.new) }
+    ensures shorter { OnOk result (length reader.new < length reader.old) }
+{
+    if let Names::Ascend = room.names {
+        return read_by_copy(alloc, reader, room);
+    }
+    let mut ascends = true;
+    let json = read_by_tree(alloc, reader, &mut ascends)?;
+    room.names = room.names.with(ascends);
+    Ok(json)
+}
+
+// Passes over the next value by its text.
+fn pass_by_copy(
+    alloc: Global,
+    reader: &mut Reader<'_>,
+    depth: usize,
+    room: &mut Room,
+) -> Result<(), PlainStop>
+    requires { depth ≤ 127 }
+    ensures read { OnOk result (PassesValue depth reader.old reader.new) }
+    ensures shorter { OnOk result (length reader.new < length reader.old) }
+{
+    let plain = copy_text(alloc, reader, depth, &mut room.text)?;
+    if plain {
+        return Ok(());
+    }
+    room.names = Names::Vary;
+    match read_value(alloc, &room.text) {
+        Ok(value) => {
+            drop(value);
+            Ok(())
+        }
+        Err(refusal) => Err(stop_of(refusal)),
+    }
+}
+
+/// Passes over the next value.
 pub(crate) fn pass_value(
     alloc: Global,
     reader: &mut Reader<'_>,
     depth: usize,
-    copy: &mut Vec<u8>,
-) -> Result<(), Stop>
+    room: &mut Room,
+) -> Result<(), PlainStop>
+    requires { depth ≤ 127 }
     ensures read { OnOk result (PassesValue depth reader.old reader.new) }
     ensures shorter { OnOk result (length reader.new < length reader.old) }
 {
-    let plain = copy_text(alloc, reader, depth, copy)?;
-    if !plain {
-        return Err(Stop::NotPlain);
+    if let Names::Vary = room.names {
+        let mut ascends = true;
+        let value = read_tree(alloc, reader, depth, &mut ascends)?;
+        drop(value);
+        return Ok(());
     }
-    Ok(())
+    pass_by_copy(alloc, reader, depth, room)
 }

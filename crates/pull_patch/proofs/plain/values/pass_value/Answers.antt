@@ -1,7 +1,5 @@
-use Rattle.pull_patch.proofs.CopiedTexts.{PassesValue-plain}
+use Rattle.serde_json.specs.View.{view}
 use Rattle.pull_patch.proofs.plain.values.pass_value.Goals as goal
 
-pub returns-clause-read : goal.returns-clause-read
-returns-clause-read c =
-    PassesValue-plain c.args.depth c.args.reader.now c.copy_text.new.reader c.copy_text.new.text.items
-    c.in_ok-plain.plain c.in_ok-plain.ensures.copied c.if-not-plain.false
+pub returns-in-Vary-clause-read : goal.returns-in-Vary-clause-read
+returns-in-Vary-clause-read c = record { tree = view c.in_ok-value.value; reads = c.in_ok-value.ensures.read }

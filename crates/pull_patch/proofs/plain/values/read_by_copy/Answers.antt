@@ -1,7 +1,7 @@
 use Rattle.std.proofs.Common.{◌≡◌, ◌∙◌, sym, ap}
 use Rattle.group_history.specs.Json.{json_text}
 use Rattle.pull_patch.proofs.CopiedTexts.{ReadsText-plain, json_text-plain, ReadsText-read}
-use Rattle.pull_patch.proofs.plain.values.read_json.Goals as goal
+use Rattle.pull_patch.proofs.plain.values.read_by_copy.Goals as goal
 
 pub returns-in-Ok-clause-read : goal.returns-in-Ok-clause-read
 returns-in-Ok-clause-read c =
