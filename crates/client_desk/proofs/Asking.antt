@@ -9,44 +9,46 @@ use Rattle.group_history.specs.declared.refusals.Refusal.{Refusal}
 use Rattle.group_history.specs.declared.refusals.Refusal.TheVariants.{NoMemory}
 use Rattle.group_history.specs.Map.{Bytes, Entries}
 use Rattle.group_history.specs.Meaning.{Meanings}
-use Rattle.group_steps.specs.Missing.{map_ok}
+use Rattle.change_tries.specs.Missing.{map_ok}
 use Rattle.pull_patch.specs.declared.writes.Write.{Write}
 use Rattle.pull_patch.specs.Writes.{written, wrote}
 use Rattle.rebase.specs.declared.asking.Asked.{Asked}
 use Rattle.rebase.specs.declared.asking.Asked.TheVariants as asked
-use Rattle.rebase.specs.declared.calls.Reply.{Reply}
-use Rattle.rebase.specs.Asked.{Tells}
-use Rattle.rebase.specs.Clients.{Acts, ClientState, Grouped}
+use Rattle.rebase.specs.declared.calls.CallReply.{CallReply}
+use Rattle.rebase.specs.Asked.{TellsAsked}
+use Rattle.rebase.specs.Clients.{AfterChange, ClientState, Grouped}
 use Rattle.rebase.specs.Replies.{Replied, reply_seen}
 use Rattle.rebase.specs.Running.{BeganAs, EndsCall, Follows, IsAsked, IsUnwritten, UnderWay}
-use Rattle.client_desk.specs.declared.faults.Fault.TheVariants as fault
+use Rattle.client_desk.specs.declared.faults.CallFault.TheVariants as fault
 use Rattle.client_desk.specs.declared.outcomes.Outcome.TheVariants.{Done}
-use Rattle.client_desk.specs.Drafts.{AsksRun, ByRun, ReadsMap, Replies, WritesAll, WritesDraft, WritesMap}
+use Rattle.client_desk.specs.Drafts.{AsksRun, ByRun, ReadsMap, RepliesAsked, WritesAll, WritesDraft, WritesMap}
 use Rattle.client_desk.specs.Inside.Sitting.{IsAt, IsStepAt, Stands}
 use Rattle.client_desk.specs.Places.{PlaceState, with_asking}
-use Rattle.client_desk.specs.Runs.{AsksNext, EndsRuns, IsAsking, IsBegunAt}
+use Rattle.client_desk.specs.Runs.{AsksNextRun, EndsRuns, IsAsking, IsBegunAt}
 use Rattle.client_desk.specs.Told.{Told, dry, told}
 use Rattle.client_desk.proofs.Moving.{at_later, at_prop}
 use Rattle.client_desk.proofs.Telling.{at_some}
 
 -- What a change came to is of the group of the client with which its call began.
 pub step_at : (has : Bytes → Bool) (means : Meanings) (group : Grouped) (client : ClientState) {M S T : Type 0}
-    (step : Asked M S T) (P : UnderWay → Type 0) (E : ClientState → Result Reply Refusal → Type 0) → IsAt group client
+    (step : Asked M S T) (P : UnderWay → Type 0) (E : ClientState → Result CallReply Refusal → Type 0)
+    → IsAt group client
     → ((a : UnderWay) → P a → BeganAs means ⊤ client a)
-    → ((c : ClientState) (r : Result Reply Refusal) → E c r → Acts ⊤ client c) → Tells step P E
-    → Tells step (IsUnwritten has) (λ c r. Unit {0}) → IsStepAt has means group step
+    → ((c : ClientState) (r : Result CallReply Refusal) → E c r → AfterChange ⊤ client c) → TellsAsked step P E
+    → TellsAsked step (IsUnwritten has) (λ c r. Unit {0}) → IsStepAt has means group step
 step_at has means group client (asked.Run a) P E at began acts is fresh =
     (fresh.1, ∣ (client, at.0, at.1, began a is) ∣₁)
 step_at has means group client (asked.Ended c r) P E at began acts is fresh = at_later group client c at (acts c r is)
 
 -- of one that is under way, whichever client its call began with
 abbrev pub RunTold : Meanings → {M S T : Type 0} → Asked M S T → UnderWay → Type 0
-RunTold means step was = (c : ClientState) → BeganAs means ⊤ c was → Tells step (IsAsked means ⊤ was.tries c was.change)
+RunTold means step was = (c : ClientState) → BeganAs means ⊤ c was
+    → TellsAsked step (IsAsked means ⊤ was.tries c was.change)
     (λ client reply. EndsCall means ⊤ was.tries c client was.change (map_ok reply_seen reply))
 
 pub step_behind : (has : Bytes → Bool) (means : Meanings) (group : Grouped) {M S T : Type 0} (step : Asked M S T)
     (was : UnderWay) → IsBegunAt means group was → RunTold means step was
-    → Tells step (IsUnwritten has) (λ c r. Unit {0}) → IsStepAt has means group step
+    → TellsAsked step (IsUnwritten has) (λ c r. Unit {0}) → IsStepAt has means group step
 step_behind has means group (asked.Run a) was begun told fresh =
     (fresh.1, ∥∥₁_map begun (λ b. (b.0, b.1, b.2, (told b.0 b.3).began)))
 step_behind has means group (asked.Ended c r) was begun told fresh =
@@ -84,21 +86,22 @@ asked_written has means group was now (m, is) asking =
 
 -- it is of the names that the group has, by either word for them
 pub told_by : {M S T : Type 0} (step : Asked M S T) (P : (Bytes → Bool) → UnderWay → Type 0) (has had : Bytes → Bool)
-    → has ≡ had → Tells step (P has) (λ c r. Unit {0}) → Tells step (P had) (λ c r. Unit {0})
-told_by step P has had same is = subst (λ h. Tells step (P h) (λ c r. Unit {0})) same is
+    → has ≡ had → TellsAsked step (P has) (λ c r. Unit {0}) → TellsAsked step (P had) (λ c r. Unit {0})
+told_by step P has had same is = subst (λ h. TellsAsked step (P h) (λ c r. Unit {0})) same is
 
 -- three things are told of a run that is asked for
 pub tells_all : {M S T : Type 0} (step : Asked M S T) (P Q R : UnderWay → Type 0)
-    (E : ClientState → Result Reply Refusal → Type 0) → Tells step P E → Tells step Q (λ c r. Unit {0})
-    → Tells step R (λ c r. Unit {0}) → Tells step (λ a. P a × Q a × R a) E
+    (E : ClientState → Result CallReply Refusal → Type 0) → TellsAsked step P E → TellsAsked step Q (λ c r. Unit {0})
+    → TellsAsked step R (λ c r. Unit {0}) → TellsAsked step (λ a. P a × Q a × R a) E
 tells_all (asked.Run a) P Q R E p q r = (p, q, r)
 tells_all (asked.Ended c reply) P Q R E e q r = e
 
 -- the next run is asked for, or the change ended, whichever client its call began with
 pub tells_next : (has : Bytes → Bool) (means : Meanings) {M S T : Type 0} (step : Asked M S T) (was : UnderWay)
-    (ran : Ran) → RunTold means step was → Tells step (Follows has means was ran) (λ c r. Unit {0})
-    → Tells step (IsUnwritten has) (λ c r. Unit {0})
-    → Tells step (AsksNext has means was ran) (λ client reply. EndsRuns means was client (map_ok reply_seen reply))
+    (ran : Ran) → RunTold means step was → TellsAsked step (Follows has means was ran) (λ c r. Unit {0})
+    → TellsAsked step (IsUnwritten has) (λ c r. Unit {0})
+    → TellsAsked step (AsksNextRun has means was ran)
+    (λ client reply. EndsRuns means was client (map_ok reply_seen reply))
 tells_next has means (asked.Run a) was ran told next fresh = record { follows = next; fresh = fresh; asked = told }
 tells_next has means (asked.Ended c r) was ran told next fresh = told
 
@@ -106,8 +109,8 @@ tells_next has means (asked.Ended c r) was ran told next fresh = told
 pub stood : {M S T : Type 0} (step : Asked M S T) (P : UnderWay → Type 0)
     (E : ClientState → Result Replied Refusal → Type 0) (b taken new : PlaceState) (t : Told) → None ≡ b.seat
     → None ≡ b.reading → taken ≡ record b { seat = None; client = None; asking = None; reading = None }
-    → Tells step P (λ c r. E c (map_ok reply_seen r)) → Stands step taken t new
-    → AsksRun P b t new ⊎ Replies E b t new
+    → TellsAsked step P (λ c r. E c (map_ok reply_seen r)) → Stands step taken t new
+    → AsksRun P b t new ⊎ RepliesAsked E b t new
 stood (asked.Run a) P E b taken new t free closed left tells stands = inl (record {
   asking = a;
   asked = tells;

@@ -6,20 +6,20 @@ use Rattle.std.specs.Coded.{Coded-set, codes}
 use Rattle.group_history.specs.Map.{Bytes}
 use Rattle.group_history.specs.Meaning.{Meanings}
 use Rattle.head_word.specs.contracts.entry.Entry as entry
-use Rattle.answered.specs.Answered.{own_moves}
-use Rattle.group_steps.specs.Leaving.{Frees}
-use Rattle.rebase.specs.Clients.{Acts, ClientState, Grouped, IsSameClient, Stays}
+use Rattle.linearized.specs.Answered.{own_moves}
+use Rattle.change_tries.specs.Leaving.{Frees}
+use Rattle.rebase.specs.Clients.{AfterChange, ClientState, Grouped, IsSameClient, AfterQuery}
 use Rattle.rebase.specs.Running.{BeganAs, UnderWay}
 use Rattle.rebase.specs.declared.tickets.Ticket.{Ticket}
 use Rattle.commit_graph.specs.Seats.{IsSameSeat}
 use Rattle.rebase.proofs.Causing.{looked_looked}
-use Rattle.client_desk.specs.declared.faults.Fault.{Fault}
-use Rattle.client_desk.specs.declared.faults.Fault.TheVariants as fault
+use Rattle.client_desk.specs.declared.faults.CallFault.{CallFault}
+use Rattle.client_desk.specs.declared.faults.CallFault.TheVariants as fault
 use Rattle.client_desk.specs.declared.outcomes.Outcome.TheVariants.{Done, Faulty}
 use Rattle.client_desk.specs.declared.sitting.Sitting.{Sitting}
 use Rattle.client_desk.specs.declared.sitting.Sitting.TheVariants as sits
 use Rattle.client_desk.specs.Answers.{ByAny, ByClient, ByReader, EndsReading, Leaves, Rule, absent}
-use Rattle.client_desk.specs.Drafts.{ByRun, GivesUp, LeavesAsked}
+use Rattle.client_desk.specs.Drafts.{ByRun, GivesUpRun, LeavesAsked}
 use Rattle.client_desk.specs.Inside.Sitting.{CanSit, IsAt, IsLeft, IsTaken, with_sitting}
 use Rattle.client_desk.specs.Places.{PlaceState, client_at, free_place}
 use Rattle.client_desk.specs.Kept.{kept_at}
@@ -43,11 +43,11 @@ at_same group before after at client seat = (
   (seat.later.book ∙ at.1.0, seat.table ∙ at.1.1),
 )
 
-pub at_later : (group : Grouped) (before after : ClientState) → IsAt group before → Acts ⊤ before after
+pub at_later : (group : Grouped) (before after : ClientState) → IsAt group before → AfterChange ⊤ before after
     → IsAt group after
 at_later group before after at acts = at_same group before after at acts.client acts.seat
 
-pub at_looked : (group : Grouped) (before after : ClientState) → IsAt group before → Stays ⊤ before after
+pub at_looked : (group : Grouped) (before after : ClientState) → IsAt group before → AfterQuery ⊤ before after
     → IsAt group after
 at_looked group before after at stays = at_same group before after at stays.0.client stays.0.looked.seat
 
@@ -85,7 +85,7 @@ back_there has means s b taken new was put =
 
 -- and was no client
 pub none_there : (rule : ClientState → Rule) (has : Bytes → Bool) (means : Meanings) {M : Type 0} (s : Sitting M)
-    (b taken new : PlaceState) (f : Fault) → IsTaken has means s b taken → new ≡ with_sitting s taken
+    (b taken new : PlaceState) (f : CallFault) → IsTaken has means s b taken → new ≡ with_sitting s taken
     → ((x : _) → s ≡ sits.Client x → ⊥) → f ≡ absent (reading_of s) → ByClient rule b (told_alone (Faulty f)) new
 none_there rule has means s b taken new f was put other is =
     by_nobody rule new b f [] (back_there has means s b taken new was put)
@@ -105,7 +105,7 @@ left_place b taken new client is left gone =
     })
 
 -- where it had a reading open, which ended first
-pub left_reading : (reader client : ClientState) (taken new : PlaceState) → Stays ⊤ reader client
+pub left_reading : (reader client : ClientState) (taken new : PlaceState) → AfterQuery ⊤ reader client
     → client.seat.mark ≡ reader.seat.mark → IsLeft client taken new → IsLeft reader taken new
 left_reading reader client taken new stays same gone = (
   gone.0,
@@ -120,7 +120,7 @@ left_reading reader client taken new stays same gone = (
 -- a reading ended
 pub read_ended : (b taken new : PlaceState) (reader client : ClientState) → Some reader ≡ b.reading → None ≡ b.seat
     → None ≡ b.asking → taken ≡ record b { seat = None; client = None; asking = None; reading = None }
-    → Stays ⊤ reader client → client.seat.mark ≡ reader.seat.mark
+    → AfterQuery ⊤ reader client → client.seat.mark ≡ reader.seat.mark
     → new ≡ record taken { seat = None; client = Some client; asking = None; reading = None }
     → ByReader EndsReading b (told_alone Done) new
 read_ended b taken new reader client is free calm left stays same put =
@@ -139,7 +139,7 @@ read_ended b taken new reader client is free calm left stays same put =
 
 -- what it is given up with, whichever client its call began with
 pub gave : (means : Meanings) (was : UnderWay) (client : ClientState)
-    → ((c : ClientState) → BeganAs means ⊤ c was → Acts ⊤ c client × (client.last ≡ c.last)
+    → ((c : ClientState) → BeganAs means ⊤ c was → AfterChange ⊤ c client × (client.last ≡ c.last)
     × (own_moves client.seat.mark ≡ own_moves c.seat.mark)
     × (⊤ → Frees (Some was.change) 0 c.seat client.seat None))
     → GaveUp means was client
@@ -156,9 +156,9 @@ pub gave_up : (means : Meanings) (b taken new : PlaceState) (a : UnderWay) (clie
     → None ≡ b.seat → None ≡ b.reading
     → taken ≡ record b { seat = None; client = None; asking = None; reading = None } → GaveUp means a client
     → new ≡ record taken { seat = None; client = Some client; asking = None; reading = None }
-    → ByRun (GivesUp means) b (told_alone Done) new
+    → ByRun (GivesUpRun means) b (told_alone Done) new
 gave_up means b taken new a client is free closed left given put =
-    by_run (GivesUp means) a b new (told_alone Done) is (record {
+    by_run (GivesUpRun means) a b new (told_alone Done) is (record {
       client = client;
       gave = given;
       told = refl;

@@ -12,14 +12,15 @@ use Rattle.group_history.specs.Rows.{Rows}
 use Rattle.group_history.specs.Scans.{rows_of}
 use Rattle.group_history.specs.Spelling.{version_of}
 use Rattle.group_history.specs.State.{State}
-use Rattle.answered.specs.Answered.{IsLinearized, IsPoint, is_mute, no_change}
-use Rattle.group_steps.specs.Missing.{IsMissedOrDry, map_ok}
+use Rattle.linearized.specs.Answered.{IsLinearized, IsPoint, is_mute, no_change}
+use Rattle.change_tries.specs.Missing.{IsStoreOrMemory, map_ok}
 use Rattle.rebase.specs.Clients.{ClientState}
-use Rattle.client_desk.specs.declared.calls.Call.{Call}
-use Rattle.client_desk.specs.declared.calls.Call.TheVariants as kind
-use Rattle.client_desk.specs.declared.faults.Fault.{Fault}
+use Rattle.client_desk.specs.declared.calls.DeskCall.{DeskCall}
+use Rattle.client_desk.specs.declared.calls.DeskCall.TheVariants as kind
+use Rattle.client_desk.specs.declared.faults.CallFault.{CallFault}
 use Rattle.client_desk.specs.declared.outcomes.Outcome.TheVariants.{Faulty}
-use Rattle.client_desk.specs.Answers.{AnswersReading, Asks, ReadsBy, ReadsKept, absent, moment_by, read_by, tries}
+use Rattle.client_desk.specs.Answers.{AnswersReading, AnswersQuery, ReadsBy, ReadsKept, absent}
+use Rattle.client_desk.specs.Answers.{moment_by, read_by, tries}
 use Rattle.client_desk.specs.Inside.Reading.{ToldBy, ToldKept, is_query, query_told}
 use Rattle.client_desk.specs.Places.{PlaceState, with_client, with_moment}
 use Rattle.client_desk.specs.Told.{Told, cookie_told, is_told, pending_told, rows_told, tells, told, value_told}
@@ -53,7 +54,7 @@ client_read tell right means client next n m t h = by h.reply h.answer h.point h
     by : (reply : Result Told Refusal)
         → IsLinearized means tries client.seat.mark next.seat.mark reply no_change (λ s. Ok (tell (right s)))
         → IfOk reply (λ x. IsPoint means client.seat.mark next.seat.mark None next.seat.mark.log)
-        → IfOk reply (λ x. x ≡ tell (right (read_by next))) → IfErr reply (IsMissedOrDry ⊤)
+        → IfOk reply (λ x. x ≡ tell (right (read_by next))) → IfErr reply (IsStoreOrMemory ⊤)
         → t ≡ tells (λ x. x) reply → m ≡ moment_by reply next n
         → (read : ReadsBy tell right means client t next) × (m ≡ moment_by read.reply next n)
     by (Ok x) answer point at refused told when = (
@@ -86,7 +87,7 @@ reader_read : {X : Type 0} (tell : X → Told) (right : State → X) (reader : C
 reader_read tell right reader n m t h = by h.reply h.answer h.refused h.told h.moment
   where
     by : (reply : Result Told Refusal) → IfOk reply (λ x. x ≡ tell (right (read_by reader)))
-        → IfErr reply (IsMissedOrDry ⊤) → t ≡ tells (λ x. x) reply → m ≡ moment_by reply reader n
+        → IfErr reply (IsStoreOrMemory ⊤) → t ≡ tells (λ x. x) reply → m ≡ moment_by reply reader n
         → (kept : ReadsKept tell right reader t) × (m ≡ moment_by kept.reply reader n)
     by (Ok x) answer refused told when =
         (record { reply = Ok (right (read_by reader)); answer = refl; refused = tt; told = told ∙ answer }, when)
@@ -97,8 +98,8 @@ reader_read tell right reader n m t h = by h.reply h.answer h.refused h.told h.m
 
 module _ (means : Meanings) (b : PlaceState) (t : Told) (a : PlaceState) (IsTold : (State → Told) → Type 0)
     (ask : (X : Type 0) (tell : X → Told) (right : State → X) → IsTold (λ s. tell (right s))
-    → Asks tell (λ c s. right s) means b t a) where
-  each_query : (call : Call) → is_query call ≡ true → IsTold (λ s. query_told (version_of means s) call)
+    → AnswersQuery tell (λ c s. right s) means b t a) where
+  each_query : (call : DeskCall) → is_query call ≡ true → IsTold (λ s. query_told (version_of means s) call)
       → AnswersReading means call b t a
   each_query (kind.Get key) q h = ask (Option Bytes) value_told (λ s. get_at means s key.now) h
   each_query (kind.Has key) q h = ask Bool is_told (λ s. has_at means s key.now) h
@@ -137,7 +138,7 @@ module _ (means : Meanings) (b : PlaceState) (t : Told) (a : PlaceState) (IsTold
   each_query (kind.Ran ran) q h = absurd (cc q)
   each_query kind.GiveUp q h = absurd (cc q)
 
-pub told_client : (means : Meanings) (v b : PlaceState) (client next : ClientState) (m : ℕ) (t : Told) (call : Call)
+pub told_client : (means : Meanings) (v b : PlaceState) (client next : ClientState) (m : ℕ) (t : Told) (call : DeskCall)
     → v ≡ b → v.client ≡ Some client → v.reading ≡ None → is_query call ≡ true
     → ToldBy means client next v.moment m t (λ s. query_told (version_of means s) call)
     → AnswersReading means call b t (with_moment m (with_client next v))
@@ -146,12 +147,13 @@ told_client means v b client next m t call same is none query h =
   where
     ask : (X : Type 0) (tell : X → Told) (right : State → X)
         → ToldBy means client next v.moment m t (λ s. tell (right s))
-        → Asks tell (λ c s. right s) means b t (with_moment m (with_client next v))
+        → AnswersQuery tell (λ c s. right s) means b t (with_moment m (with_client next v))
     ask X tell right told =
         let read = client_read tell right means client next v.moment m t told in
         asked_client tell (λ c s. right s) means v b client next m t same is none read.0 read.1
 
-pub told_reader : (means : Meanings) (v b : PlaceState) (reader : ClientState) (m : ℕ) (t : Told) (call : Call) → v ≡ b
+pub told_reader : (means : Meanings) (v b : PlaceState) (reader : ClientState) (m : ℕ) (t : Told) (call : DeskCall)
+    → v ≡ b
     → v.reading ≡ Some reader → is_query call ≡ true
     → ToldKept reader v.moment m t (λ s. query_told (version_of means s) call)
     → AnswersReading means call b t (with_moment m v)
@@ -159,17 +161,17 @@ told_reader means v b reader m t call same is query h =
     each_query means b t (with_moment m v) (ToldKept reader v.moment m t) ask call query h
   where
     ask : (X : Type 0) (tell : X → Told) (right : State → X) → ToldKept reader v.moment m t (λ s. tell (right s))
-        → Asks tell (λ c s. right s) means b t (with_moment m v)
+        → AnswersQuery tell (λ c s. right s) means b t (with_moment m v)
     ask X tell right told =
         let kept = reader_read tell right reader v.moment m t told in
         asked_reader tell (λ c s. right s) means v b reader m t same is kept.0 kept.1
 
-pub told_nobody : (means : Meanings) (v b : PlaceState) (f : Fault) (bytes : Bytes) (call : Call) → v ≡ b
+pub told_nobody : (means : Meanings) (v b : PlaceState) (f : CallFault) (bytes : Bytes) (call : DeskCall) → v ≡ b
     → v.client ≡ None → v.reading ≡ None → f ≡ absent v.reading → bytes ≡ [] → is_query call ≡ true
     → AnswersReading means call b (told (Faulty f) bytes) v
 told_nobody means v b f bytes call same none closed is empty query =
     each_query means b (told (Faulty f) bytes) v (λ right. ⊤) ask call query tt
   where
     ask : (X : Type 0) (tell : X → Told) (right : State → X) → ⊤
-        → Asks tell (λ c s. right s) means b (told (Faulty f) bytes) v
+        → AnswersQuery tell (λ c s. right s) means b (told (Faulty f) bytes) v
     ask X tell right it = asked_nobody tell (λ c s. right s) means v b f bytes same none closed is empty

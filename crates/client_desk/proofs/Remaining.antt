@@ -11,20 +11,22 @@ use Rattle.group_history.specs.Queries.{get_at, has_at, is_empty_at, view_rows}
 use Rattle.group_history.specs.Scans.{rows_of}
 use Rattle.group_history.specs.State.{State}
 use Rattle.push_body.specs.Bodies.{push_text}
-use Rattle.commit_graph.specs.Seats.{IsSameSeat, Seated}
-use Rattle.rebase.specs.Clients.{ClientState, IsSameClient, Looks}
-use Rattle.rebase.specs.Queries.{Asked as Begun}
+use Rattle.commit_graph.specs.Seats.{IsSameSeat, SeatState}
+use Rattle.rebase.specs.Clients.{ClientState, IsSameClient, AfterLook}
+use Rattle.rebase.specs.Queries.{AskedQuery as Begun}
 use Rattle.rebase.specs.Running.{UnderWay}
 use Rattle.rebase.specs.declared.calls.Call.{Call as Changing}
 use Rattle.rebase.specs.declared.calls.Call.TheVariants as changing
 use Rattle.group_history.specs.declared.refusals.Refusal.{Refusal}
-use Rattle.client_desk.specs.declared.calls.Call.{Call}
-use Rattle.client_desk.specs.declared.calls.Call.TheVariants as call
+use Rattle.client_desk.specs.declared.calls.DeskCall.{DeskCall}
+use Rattle.client_desk.specs.declared.calls.DeskCall.TheVariants as call
 use Rattle.client_desk.specs.declared.calls.Keep.{Keep}
-use Rattle.client_desk.specs.declared.faults.Fault.{Fault}
-use Rattle.client_desk.specs.declared.faults.Fault.TheVariants as fault
-use Rattle.client_desk.specs.Answers.{Asks, AsksAs, At, Begins, ByClient, CountsFree, EndsReading, HasOnlyLooked}
-use Rattle.client_desk.specs.Answers.{IsBegun, Lacks, Polls, PollsAs, PollsChanges, Reads, Refreshes, Rule, Telling}
+use Rattle.client_desk.specs.declared.faults.CallFault.{CallFault}
+use Rattle.client_desk.specs.declared.faults.CallFault.TheVariants as fault
+use Rattle.client_desk.specs.Answers.{AnswersQuery, AsksAs, At, BeginsPull, ByClient}
+use Rattle.client_desk.specs.Answers.{CountsFree, EndsReading, HasOnlyLooked}
+use Rattle.client_desk.specs.Answers.{IsBegun, AnswersLack, Polls, PollsAs, PollsChanges, AnswersRead, Refreshes}
+use Rattle.client_desk.specs.Answers.{Rule, Telling}
 use Rattle.client_desk.specs.Answers.{TellsChanges, TellsMoment, TellsMomentAs, TellsRows, Unwatches, Watches, absent}
 use Rattle.client_desk.specs.Answers.{made_room}
 use Rattle.client_desk.specs.Calls.{AnswersCalm, MayAnswerAt}
@@ -35,7 +37,7 @@ use Rattle.client_desk.specs.Told.{Told, bytes_told, cookie_told, is_told, pendi
 use Rattle.client_desk.specs.Waiting.{IsEndOf, MayAnswerWaiting, Waits}
 
 -- the call is none that sits down, leaves or begins a reading
-abbrev pub IsSitting : Call → Type 0
+abbrev pub IsSitting : DeskCall → Type 0
 IsSitting (call.Sit id) = ⊥
 IsSitting call.Leave = ⊥
 IsSitting call.BeginRead = ⊥
@@ -45,7 +47,7 @@ IsSitting other = ⊤
 abbrev who : PlaceState → Option ClientState × Option UnderWay × Option ClientState
 who p = (p.client, p.asking, p.reading)
 
-room_same : (made : Call) (b : PlaceState) → who (made_room made b) ≡ who b
+room_same : (made : DeskCall) (b : PlaceState) → who (made_room made b) ≡ who b
 room_same (call.Begin keep) b = refl
 room_same (call.Watch keep scan) b = refl
 room_same other b = refl
@@ -54,7 +56,7 @@ room_same other b = refl
 abbrev pub Sits : ClientState → PlaceState → Type 0
 Sits c a = (d : ClientState) × (a.client ≡ Some d) × IsCalm a × IsSameClient c d × IsSameSeat c.seat d.seat
 
-same_seat : (s : Seated) → IsSameSeat s s
+same_seat : (s : SeatState) → IsSameSeat s s
 same_seat s = record {
   table = refl;
   later = record { book = refl; seat = refl; seen = ([], append-nil s.mark.log) };
@@ -70,7 +72,7 @@ module _ (means : Meanings) (c : ClientState) (b a : PlaceState) (t : Told) (sit
   as_before : who a ≡ who b → Sits c a
   as_before same = moved_on c (same ∙ ap (λ o. (o, b.asking, b.reading)) sits) (refl, refl) (same_seat c.seat)
 
-  by_looks : (d : ClientState) → who a ≡ (Some d, b.asking, b.reading) → Looks ⊤ c d → Sits c a
+  by_looks : (d : ClientState) → who a ≡ (Some d, b.asking, b.reading) → AfterLook ⊤ c d → Sits c a
   by_looks d is l = moved_on d is l.client l.looked.seat
 
   only_looked : (p : PlaceState) → who p ≡ who b → HasOnlyLooked p a → Sits c a
@@ -78,15 +80,15 @@ module _ (means : Meanings) (c : ClientState) (b a : PlaceState) (t : Told) (sit
       let here : Some h.old ≡ Some c = sym h.sits ∙ ap (λ w. w.0) same ∙ sits in
       let is : h.old ≡ c = cc here in
       by_looks h.new (ap who h.left ∙ ap (λ w. (Some h.new, w.1, w.2)) same)
-      (subst (λ o. Looks ⊤ o h.new) is h.stays.0)
+      (subst (λ o. AfterLook ⊤ o h.new) is h.stays.0)
 
-  lacks : (made : Call) → Lacks (made_room made b) t a → Sits c a
+  lacks : (made : DeskCall) → AnswersLack (made_room made b) t a → Sits c a
   lacks made l = elim l.left [
     | inl same ↦ as_before (ap who same ∙ room_same made b)
     | inr looked ↦ only_looked (made_room made b) (room_same made b) looked
   ]
 
-  at_sits : {X : Type 0} (x : Option X) (none : Fault) (rule : X → Rule) → ((y : X) → rule y b t a → Sits c a)
+  at_sits : {X : Type 0} (x : Option X) (none : CallFault) (rule : X → Rule) → ((y : X) → rule y b t a → Sits c a)
       → At x none rule b t a → Sits c a
   at_sits (Some y) none rule each h = each y h
   at_sits None none rule each h = as_before (ap who h.1)
@@ -94,12 +96,13 @@ module _ (means : Meanings) (c : ClientState) (b a : PlaceState) (t : Told) (sit
   by_sits : (rule : ClientState → Rule) → (rule c b t a → Sits c a) → ByClient rule b t a → Sits c a
   by_sits rule each h = each (subst (λ o. At o (absent b.reading) rule b t a) sits h)
 
-  reads_sits : {X : Type 0} (tell : X → Told) (right : State → X) → Reads tell right means c b t a → Sits c a
+  reads_sits : {X : Type 0} (tell : X → Told) (right : State → X) → AnswersRead tell right means c b t a → Sits c a
   reads_sits tell right h = by_looks h.0 (ap who h.2) h.1.stays.0
 
-  asks_sits : {X : Type 0} (tell : X → Told) (right : ClientState → State → X) → Asks tell right means b t a → Sits c a
+  asks_sits : {X : Type 0} (tell : X → Told) (right : ClientState → State → X) → AnswersQuery tell right means b t a
+      → Sits c a
   asks_sits tell right h =
-      by_sits (λ d. Reads tell (right d) means d) (reads_sits tell (right c))
+      by_sits (λ d. AnswersRead tell (right d) means d) (reads_sits tell (right c))
       (subst (λ o. AsksAs tell right means o b t a) calm.1 h)
 
   moment_sits : TellsMomentAs means b.reading b t a → Sits c a
@@ -107,7 +110,7 @@ module _ (means : Meanings) (c : ClientState) (b a : PlaceState) (t : Told) (sit
       by_sits (TellsMoment means) (λ m. moved_on m.next (ap who m.left) m.same.0 m.looked.seat)
       (subst (λ o. TellsMomentAs means o b t a) calm.1 h)
 
-  calm_sits : (made : Call) → (AnswersCalm (λ name. true) means made b t a → Sits c a)
+  calm_sits : (made : DeskCall) → (AnswersCalm (λ name. true) means made b t a → Sits c a)
       → MayAnswerAt (λ name. true) means made b.asking b t a → Sits c a
   calm_sits made each h =
       elim (subst (λ x. MayAnswerAt (λ name. true) means made x b t a) calm.0 h) [
@@ -122,12 +125,12 @@ module _ (means : Meanings) (c : ClientState) (b a : PlaceState) (t : Told) (sit
   counts_sits h = moved_on h.0 (ap who h.2) h.1.same.0 h.1.looked.seat
 
   begun_sits : (keep : Keep) (reply : Result Begun Refusal) (next : ClientState) (p : PlaceState) → who p ≡ who b
-      → Looks ⊤ c next → IsBegun keep reply next p t a → Sits c a
+      → AfterLook ⊤ c next → IsBegun keep reply next p t a → Sits c a
   begun_sits keep (Ok asked) next p same l k =
       by_looks next (ap who k.left ∙ ap (λ w. (Some next, w.1, w.2)) same) l
   begun_sits keep (Err e) next p same l k = by_looks next (ap who k.1 ∙ ap (λ w. (Some next, w.1, w.2)) same) l
 
-  begins_sits : (keep : Keep) → Begins keep means c (made_room (call.Begin keep) b) t a → Sits c a
+  begins_sits : (keep : Keep) → BeginsPull keep means c (made_room (call.Begin keep) b) t a → Sits c a
   begins_sits keep h = begun_sits keep h.reply h.next (made_room (call.Begin keep) b) refl h.stays.0 h.begun
 
   watches_sits : (keep : Keep) (scan : Scan) (p : PlaceState) → who p ≡ who b → Watches keep scan c p t a → Sits c a
@@ -142,7 +145,7 @@ module _ (means : Meanings) (c : ClientState) (b a : PlaceState) (t : Told) (sit
       at_sits (kept_at b.watches n) fault.NoWatch (λ watch. PollsAs telling means c n watch)
       (λ watch p. by_looks p.next (ap who p.left) p.stays.0) h
 
-  pub remains : (made : Call) → IsSitting made → MayAnswerWaiting means made b t a → Sits c a
+  pub remains : (made : DeskCall) → IsSitting made → MayAnswerWaiting means made b t a → Sits c a
   remains (call.Mutate m) is h = by_sits (Waits means (λ x. x ≡ changing.Mutate m)) (waits_sits _) h
   remains (call.End n body) is h =
       by_sits (λ c p. At (kept_at p.tickets n) fault.NoTicket (λ kept. Waits means (IsEndOf kept body.now) c) p)
@@ -157,7 +160,7 @@ module _ (means : Meanings) (c : ClientState) (b a : PlaceState) (t : Told) (sit
   remains call.Refresh is h =
       calm_sits call.Refresh (by_sits (Refreshes means) (λ r. by_looks r.next (ap who r.left) r.looks)) h
   remains (call.Begin keep) is h =
-      calm_sits (call.Begin keep) (by_sits (λ c p. Begins keep means c (made_room (call.Begin keep) p))
+      calm_sits (call.Begin keep) (by_sits (λ c p. BeginsPull keep means c (made_room (call.Begin keep) p))
       (begins_sits keep)) h
   remains (call.Forget n) is h =
       calm_sits (call.Forget n) (at_sits (kept_at b.tickets n) fault.NoTicket _

@@ -4,20 +4,22 @@ use Rattle.group_history.specs.declared.refusals.Refusal.{Refusal}
 use Rattle.group_history.specs.Meaning.{Meanings}
 use Rattle.group_history.specs.State.{State}
 use Rattle.rebase.specs.Clients.{ClientState, Grouped}
-use Rattle.rebase.specs.Queries.{Asked as Begun}
+use Rattle.rebase.specs.Queries.{AskedQuery as Begun}
 use Rattle.rebase.specs.Running.{UnderWay}
 use Rattle.rebase.specs.declared.tickets.Ticket.{Ticket}
 use Rattle.std.specs.Prelude.{IfSome, drop}
 use Rattle.std.specs.FinMap as finite
 use Rattle.client_desk.specs.Runs.{IsAsking}
-use Rattle.client_desk.specs.declared.calls.Call.{Call}
-use Rattle.client_desk.specs.declared.calls.Call.TheVariants as call
+use Rattle.client_desk.specs.declared.calls.DeskCall.{DeskCall}
+use Rattle.client_desk.specs.declared.calls.DeskCall.TheVariants as call
 use Rattle.client_desk.specs.declared.calls.Keep.{Keep}
-use Rattle.client_desk.specs.declared.faults.Fault.{Fault}
-use Rattle.client_desk.specs.declared.faults.Fault.TheVariants as fault
-use Rattle.client_desk.specs.Answers.{Asks, AsksAs, At, Begins, ByClient, CountsFree, EndsReading, Forgets, IsBegun}
-use Rattle.client_desk.specs.Answers.{Lacks, Leaves, MayBeginReading, Polls, PollsAs, PollsChanges, Reads, Refreshes}
-use Rattle.client_desk.specs.Answers.{Rule, Sits, Telling, TellsChanges, TellsMoment, TellsMomentAs, TellsRows}
+use Rattle.client_desk.specs.declared.faults.CallFault.{CallFault}
+use Rattle.client_desk.specs.declared.faults.CallFault.TheVariants as fault
+use Rattle.client_desk.specs.Answers.{AnswersQuery, AsksAs, At, BeginsPull, ByClient, CountsFree}
+use Rattle.client_desk.specs.Answers.{EndsReading, Forgets, IsBegun}
+use Rattle.client_desk.specs.Answers.{AnswersLack, Leaves, MayBeginReading, Polls, PollsAs}
+use Rattle.client_desk.specs.Answers.{PollsChanges, AnswersRead, Refreshes}
+use Rattle.client_desk.specs.Answers.{Rule, AnswersSit, Telling, TellsChanges, TellsMoment, TellsMomentAs, TellsRows}
 use Rattle.client_desk.specs.Answers.{Unwatches, Watches, absent, made_room}
 use Rattle.client_desk.specs.Calls.{AnswersCalm, MayAnswerAt}
 use Rattle.client_desk.specs.Places.{PlaceState, client_at}
@@ -35,7 +37,7 @@ use Rattle.rebase.specs.declared.calls.Call.TheVariants as changing
 abbrev group_of : PlaceState → Grouped
 group_of p = p.group
 
-room_stays : (made : Call) (b : PlaceState) → (made_room made b).group ≡ b.group
+room_stays : (made : DeskCall) (b : PlaceState) → (made_room made b).group ≡ b.group
 room_stays (call.Begin keep) b = refl
 room_stays (call.Watch keep scan) b = refl
 room_stays other b = refl
@@ -44,13 +46,13 @@ module _ (means : Meanings) (b a : PlaceState) (t : Told) where
   abbrev pub Stays : Type 0
   Stays = a.group ≡ b.group
 
-  lacks_stays : (made : Call) → Lacks (made_room made b) t a → Stays
+  lacks_stays : (made : DeskCall) → AnswersLack (made_room made b) t a → Stays
   lacks_stays made l = elim l.left [
     | inl same ↦ ap group_of same ∙ room_stays made b
     | inr looked ↦ ap group_of looked.left ∙ room_stays made b
   ]
 
-  at_stays : {X : Type 0} (x : Option X) (none : Fault) (rule : X → Rule) → ((y : X) → rule y b t a → Stays)
+  at_stays : {X : Type 0} (x : Option X) (none : CallFault) (rule : X → Rule) → ((y : X) → rule y b t a → Stays)
       → At x none rule b t a → Stays
   at_stays (Some y) none rule each h = each y h
   at_stays None none rule each h = ap group_of h.1
@@ -58,23 +60,26 @@ module _ (means : Meanings) (b a : PlaceState) (t : Told) where
   by_stays : (rule : ClientState → Rule) → ((c : ClientState) → rule c b t a → Stays) → ByClient rule b t a → Stays
   by_stays rule each h = at_stays b.client (absent b.reading) rule each h
 
-  reads_stays : {X : Type 0} (tell : X → Told) (right : State → X) (c : ClientState) → Reads tell right means c b t a
+  reads_stays : {X : Type 0} (tell : X → Told) (right : State → X) (c : ClientState)
+      → AnswersRead tell right means c b t a
       → Stays
   reads_stays tell right c h = ap group_of h.2
 
   asked_stays : {X : Type 0} (tell : X → Told) (right : ClientState → State → X) (o : Option ClientState)
       → AsksAs tell right means o b t a → Stays
   asked_stays tell right (Some reader) h = ap group_of h.1
-  asked_stays tell right None h = by_stays (λ c. Reads tell (right c) means c) (λ c. reads_stays tell (right c) c) h
+  asked_stays tell right None h =
+      by_stays (λ c. AnswersRead tell (right c) means c) (λ c. reads_stays tell (right c) c) h
 
-  asks_stays : {X : Type 0} (tell : X → Told) (right : ClientState → State → X) → Asks tell right means b t a → Stays
+  asks_stays : {X : Type 0} (tell : X → Told) (right : ClientState → State → X)
+      → AnswersQuery tell right means b t a → Stays
   asks_stays tell right h = asked_stays tell right b.reading h
 
   moment_stays : (o : Option ClientState) → TellsMomentAs means o b t a → Stays
   moment_stays (Some reader) h = ap group_of h.1
   moment_stays None h = by_stays (TellsMoment means) (λ c m. ap group_of m.left) h
 
-  calm_stays : (made : Call) → b.asking ≡ None → (AnswersCalm (λ name. true) means made b t a → Stays)
+  calm_stays : (made : DeskCall) → b.asking ≡ None → (AnswersCalm (λ name. true) means made b t a → Stays)
       → MayAnswerAt (λ name. true) means made b.asking b t a → Stays
   calm_stays made none each h =
       elim (subst (λ x. MayAnswerAt (λ name. true) means made x b t a) none h) [
@@ -82,7 +87,7 @@ module _ (means : Meanings) (b a : PlaceState) (t : Told) where
         | inr done ↦ each done
       ]
 
-  sits_stays : (id : List ℕ) → Sits means id b t a → Stays
+  sits_stays : (id : List ℕ) → AnswersSit means id b t a → Stays
   sits_stays id h =
       at_stays b.seat _ _ (λ seat s. elim s [ inl sat ↦ ap group_of sat.left | inr away ↦ ap group_of away.left ]) h
 
@@ -91,7 +96,7 @@ module _ (means : Meanings) (b a : PlaceState) (t : Told) where
   begun_stays keep (Ok asked) next p same k = ap group_of k.left ∙ same
   begun_stays keep (Err e) next p same k = ap group_of k.1 ∙ same
 
-  begins_stays : (keep : Keep) (c : ClientState) → Begins keep means c (made_room (call.Begin keep) b) t a → Stays
+  begins_stays : (keep : Keep) (c : ClientState) → BeginsPull keep means c (made_room (call.Begin keep) b) t a → Stays
   begins_stays keep c h = begun_stays keep h.reply h.next (made_room (call.Begin keep) b) refl h.begun
 
   forgets_stays : (n : ℕ) (kept : Ticket) → Forgets n kept b t a → Stays
@@ -128,7 +133,7 @@ module _ (means : Meanings) (b a : PlaceState) (t : Told) where
   waits_stays : (is : Changing → Type 0) (c : ClientState) → Waits means is c b t a → Stays
   waits_stays is c w = ap group_of w.left
 
-  pub stays : (made : Call) → b.asking ≡ None → MayAnswerWaiting means made b t a → Stays
+  pub stays : (made : DeskCall) → b.asking ≡ None → MayAnswerWaiting means made b t a → Stays
   stays (call.Mutate m) none h = by_stays (Waits means (λ x. x ≡ changing.Mutate m)) (waits_stays _) h
   stays (call.End n body) none h =
       by_stays (λ c p. At (kept_at p.tickets n) fault.NoTicket (λ kept. Waits means (IsEndOf kept body.now) c) p)
@@ -145,7 +150,7 @@ module _ (means : Meanings) (b a : PlaceState) (t : Told) where
   stays call.Refresh none h =
       calm_stays call.Refresh none (by_stays (Refreshes means) refreshes_stays) h
   stays (call.Begin keep) none h =
-      calm_stays (call.Begin keep) none (by_stays (λ c p. Begins keep means c (made_room (call.Begin keep) p))
+      calm_stays (call.Begin keep) none (by_stays (λ c p. BeginsPull keep means c (made_room (call.Begin keep) p))
       (λ c. begins_stays keep c)) h
   stays (call.Forget n) none h =
       calm_stays (call.Forget n) none (at_stays (kept_at b.tickets n) fault.NoTicket (Forgets n) (forgets_stays n)) h

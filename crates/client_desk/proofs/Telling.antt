@@ -6,25 +6,26 @@ use Rattle.group_history.specs.Meaning.{Meanings}
 use Rattle.group_history.specs.declared.refusals.Refusal.{Refusal}
 use Rattle.group_history.specs.Map.{Bytes}
 use Rattle.group_history.specs.State.{State, last_id}
-use Rattle.answered.specs.Answered.{IsLinearized, IsPoint, IsRefused, no_change}
+use Rattle.linearized.specs.Answered.{IsLinearized, IsPoint, IsRefused, no_change}
 use Rattle.commit_graph.specs.Seats.{HasLooked}
-use Rattle.group_steps.specs.Missing.{IsStoreRefusal}
+use Rattle.change_tries.specs.Missing.{IsStoreRefusal}
 use Rattle.head_word.specs.Laws.{moment}
 use Rattle.head_word.specs.Marks.{Known}
-use Rattle.rebase.specs.Clients.{ClientState, IsSameClient, Looks}
-use Rattle.client_desk.specs.declared.faults.Fault.{Fault}
+use Rattle.rebase.specs.Clients.{ClientState, IsSameClient, AfterLook}
+use Rattle.client_desk.specs.declared.faults.CallFault.{CallFault}
 use Rattle.client_desk.specs.declared.outcomes.Outcome.{Outcome}
 use Rattle.client_desk.specs.declared.outcomes.Outcome.TheVariants.{Done, Faulty, Number}
 use Rattle.client_desk.specs.declared.sitting.Sitting.{Sitting}
 use Rattle.client_desk.specs.declared.sitting.Sitting.TheVariants as sits
-use Rattle.client_desk.specs.Answers.{Asks, AsksAs, At, ByClient, Reads, ReadsBy, ReadsKept, Refreshes, Rule}
+use Rattle.client_desk.specs.Answers.{AnswersQuery, AsksAs, At, ByClient, AnswersRead, ReadsBy}
+use Rattle.client_desk.specs.Answers.{ReadsKept, Refreshes, Rule}
 use Rattle.client_desk.specs.Answers.{TellsMoment, TellsMomentAs, absent, moment_by, tries}
 use Rattle.client_desk.specs.Places.{PlaceState, with_client, with_moment}
 use Rattle.client_desk.specs.Sitting.{client_of, reading_of}
 use Rattle.client_desk.specs.Told.{Told, dry, id_told, tells, told, told_alone}
 
 -- by what is there, and where it isn't
-pub at_some : {X : Type 0} (o : Option X) (none : Fault) (rule : X → Rule) (x : X) (b : PlaceState) (t : Told)
+pub at_some : {X : Type 0} (o : Option X) (none : CallFault) (rule : X → Rule) (x : X) (b : PlaceState) (t : Told)
     (a : PlaceState) → o ≡ Some x → rule x b t a → At o none rule b t a
 at_some o none rule x b t a is done = subst (λ p. At p none rule b t a) (sym is) done
 
@@ -37,7 +38,7 @@ no_client (sits.Asking x) other = refl
 no_client (sits.Reading x) other = refl
 no_client sits.Moving other = refl
 
-pub by_nobody : (rule : ClientState → Rule) (v b : PlaceState) (f : Fault) (bytes : Bytes) → v ≡ b → v.client ≡ None
+pub by_nobody : (rule : ClientState → Rule) (v b : PlaceState) (f : CallFault) (bytes : Bytes) → v ≡ b → v.client ≡ None
     → f ≡ absent v.reading → bytes ≡ [] → ByClient rule b (told (Faulty f) bytes) v
 by_nobody rule v b f bytes same none is empty =
     let t = told (Faulty f) bytes in
@@ -49,47 +50,47 @@ by_nobody rule v b f bytes same none is empty =
 
 -- where no reading is open
 asks_none : {X : Type 0} (tell : X → Told) (right : ClientState → State → X) (means : Meanings) (b : PlaceState)
-    (t : Told) (a : PlaceState) → b.reading ≡ None → ByClient (λ c. Reads tell (right c) means c) b t a
-    → Asks tell right means b t a
+    (t : Told) (a : PlaceState) → b.reading ≡ None → ByClient (λ c. AnswersRead tell (right c) means c) b t a
+    → AnswersQuery tell right means b t a
 asks_none tell right means b t a none is = subst (λ o. AsksAs tell right means o b t a) (sym none) is
 
 -- what a client tells that read
 asks_client : {X : Type 0} (tell : X → Told) (right : ClientState → State → X) (means : Meanings) (b : PlaceState)
     (client next : ClientState) (m : ℕ) (t : Told) → b.client ≡ Some client → b.reading ≡ None
     → (read : ReadsBy tell (right client) means client t next) → m ≡ moment_by read.reply next b.moment
-    → Asks tell right means b t (with_moment m (with_client next b))
+    → AnswersQuery tell right means b t (with_moment m (with_client next b))
 asks_client tell right means b client next m t is none read at =
     let a = with_moment m (with_client next b) in
     asks_none tell right means b t a none
-    (at_some b.client (absent b.reading) (λ c. Reads tell (right c) means c) client b t a is
+    (at_some b.client (absent b.reading) (λ c. AnswersRead tell (right c) means c) client b t a is
     (next, read, ap (λ n. with_moment n (with_client next b)) at))
 
 pub asked_client : {X : Type 0} (tell : X → Told) (right : ClientState → State → X) (means : Meanings)
     (v b : PlaceState) (client next : ClientState) (m : ℕ) (t : Told) → v ≡ b → v.client ≡ Some client
     → v.reading ≡ None → (read : ReadsBy tell (right client) means client t next)
-    → m ≡ moment_by read.reply next v.moment → Asks tell right means b t (with_moment m (with_client next v))
+    → m ≡ moment_by read.reply next v.moment → AnswersQuery tell right means b t (with_moment m (with_client next v))
 asked_client tell right means v b client next m t same is none read at =
-    subst (λ s. Asks tell right means s t (with_moment m (with_client next v))) same
+    subst (λ s. AnswersQuery tell right means s t (with_moment m (with_client next v))) same
     (asks_client tell right means v client next m t is none read at)
 
 -- what an open reading tells
 pub asked_reader : {X : Type 0} (tell : X → Told) (right : ClientState → State → X) (means : Meanings)
     (v b : PlaceState) (reader : ClientState) (m : ℕ) (t : Told) → v ≡ b → v.reading ≡ Some reader
     → (kept : ReadsKept tell (right reader) reader t) → m ≡ moment_by kept.reply reader v.moment
-    → Asks tell right means b t (with_moment m v)
+    → AnswersQuery tell right means b t (with_moment m v)
 asked_reader tell right means v b reader m t same is kept at =
-    subst (λ s. Asks tell right means s t (with_moment m v)) same
+    subst (λ s. AnswersQuery tell right means s t (with_moment m v)) same
     (subst (λ o. AsksAs tell right means o v t (with_moment m v)) (sym is) (kept, ap (λ n. with_moment n v) at))
 
 -- where neither is there
 pub asked_nobody : {X : Type 0} (tell : X → Told) (right : ClientState → State → X) (means : Meanings)
-    (v b : PlaceState) (f : Fault) (bytes : Bytes) → v ≡ b → v.client ≡ None → v.reading ≡ None
-    → f ≡ absent v.reading → bytes ≡ [] → Asks tell right means b (told (Faulty f) bytes) v
+    (v b : PlaceState) (f : CallFault) (bytes : Bytes) → v ≡ b → v.client ≡ None → v.reading ≡ None
+    → f ≡ absent v.reading → bytes ≡ [] → AnswersQuery tell right means b (told (Faulty f) bytes) v
 asked_nobody tell right means v b f bytes same none closed is empty =
     let t = told (Faulty f) bytes in
-    subst (λ s. Asks tell right means s t v) same
+    subst (λ s. AnswersQuery tell right means s t v) same
     (asks_none tell right means v t v closed
-    (by_nobody (λ c. Reads tell (right c) means c) v v f bytes refl none is empty))
+    (by_nobody (λ c. AnswersRead tell (right c) means c) v v f bytes refl none is empty))
 
 -- who neither is a client nor has a reading open
 pub neither : {M : Type 0} (s : Sitting M) → ((x : _) → s ≡ sits.Client x → ⊥) → ((x : _) → s ≡ sits.Reading x → ⊥)
@@ -129,7 +130,7 @@ moment_reader means v b reader n same is tells =
     subst (λ (s : PlaceState). TellsMomentAs means s.reading s t v) same
     (subst (λ o. TellsMomentAs means o v t v) (sym is) (ap (λ m. told_alone (Number m)) tells, refl))
 
-pub moment_nobody : (means : Meanings) (v b : PlaceState) (f : Fault) → v ≡ b → v.client ≡ None → v.reading ≡ None
+pub moment_nobody : (means : Meanings) (v b : PlaceState) (f : CallFault) → v ≡ b → v.client ≡ None → v.reading ≡ None
     → f ≡ absent v.reading → TellsMomentAs means b.reading b (told_alone (Faulty f)) v
 moment_nobody means v b f same none closed is =
     let t = told_alone (Faulty f) in
@@ -164,7 +165,7 @@ pub refreshed : (means : Meanings) (v b : PlaceState) (client next : ClientState
     (o : Outcome) → v ≡ b → v.client ≡ Some client
     → IsLinearized means tries client.seat.mark next.seat.mark reply no_change (λ s. Ok (last_id s client.id))
     → IfOk reply (λ n. next.last ≡ n) → IfErr reply (λ _. next.last ≡ client.last) → IfErr reply (IsStoreRefusal ⊤)
-    → Looks ⊤ client next → told_alone o ≡ tells id_told reply
+    → AfterLook ⊤ client next → told_alone o ≡ tells id_told reply
     → ByClient (Refreshes means) b (told_alone o) (with_client next v)
 refreshed means v b client next reply o same is answer id last refused looks told =
     subst (λ s. ByClient (Refreshes means) s (told_alone o) (with_client next v)) same

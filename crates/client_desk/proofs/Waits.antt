@@ -5,9 +5,9 @@ use Rattle.group_history.specs.declared.refusals.Refusal.{Refusal}
 use Rattle.group_history.specs.declared.refusals.Refusal.TheVariants as refusal
 use Rattle.group_history.specs.declared.responses.Ended.{Ended}
 use Rattle.group_history.specs.Meaning.{Meanings}
-use Rattle.commit_graph.specs.Seats.{Seated}
-use Rattle.group_steps.specs.Causes.{HasCause}
-use Rattle.group_steps.specs.Missing.{map_ok}
+use Rattle.commit_graph.specs.Seats.{SeatState}
+use Rattle.change_tries.specs.Causes.{HasCause}
+use Rattle.change_tries.specs.Missing.{map_ok}
 use Rattle.rebase.specs.Asking.{is_passing}
 use Rattle.rebase.specs.Calls.{Caller, change_for, last_after}
 use Rattle.rebase.specs.Clients.{ClientState}
@@ -49,7 +49,7 @@ ended_replied (Err e) = refl
 
 -- why a call is refused, as it is told
 pub cause_told : {X : Type 0} (f : X → Replied) (means : Meanings) (c : Caller) (made : Changing) (r : Result X Refusal)
-    (old new : Seated) → IfErr r (HasCause means ⊤ c.last (change_for c made) old new)
+    (old new : SeatState) → IfErr r (HasCause means ⊤ c.last (change_for c made) old new)
     → IfErr (map_ok f r) (HasCause means ⊤ c.last (change_for c made) old new)
 cause_told f means c made r old new is = why_told f (HasCause means ⊤ c.last (change_for c made) old new) r is
 

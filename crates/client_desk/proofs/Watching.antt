@@ -6,11 +6,11 @@ use Rattle.std.proofs.lemmas.List.{set-get_or}
 use Rattle.group_history.specs.declared.scans.Scan.{Scan}
 use Rattle.group_history.specs.Meaning.{Meanings}
 use Rattle.commit_graph.specs.Seats.{IsSeatOf}
-use Rattle.rebase.specs.Clients.{ClientState, Grouped, Stays}
+use Rattle.rebase.specs.Clients.{ClientState, Grouped, AfterQuery}
 use Rattle.rebase.specs.Watching.{Watched}
 use Rattle.client_desk.specs.declared.calls.Keep.{Keep}
-use Rattle.client_desk.specs.declared.faults.Fault.TheVariants as fault
-use Rattle.client_desk.specs.Answers.{At, ByClient, Lacks, PollsAs, Rule, Telling, Watches, absent}
+use Rattle.client_desk.specs.declared.faults.CallFault.TheVariants as fault
+use Rattle.client_desk.specs.Answers.{At, ByClient, AnswersLack, PollsAs, Rule, Telling, Watches, absent}
 use Rattle.client_desk.specs.Inside.Keeping.{AreOf, IsPolled, KeepsWatch}
 use Rattle.client_desk.specs.Kept.{kept_at, room_for}
 use Rattle.client_desk.specs.Places.{PlaceState, with_client, with_watches}
@@ -40,7 +40,7 @@ WatchesThere keep scan c b = Watches keep scan c (record b { watches = room_for 
 watched_here : (keep : Keep) (scan : Scan) (v : PlaceState) (client : ClientState) (t : Told)
     (new : List (Option Watched)) → v.client ≡ Some client
     → KeepsWatch keep (new_watch client scan) t (room_for keep v.watches) new
-    → Lacks (record v { watches = room_for keep v.watches }) t (record v { watches = new })
+    → AnswersLack (record v { watches = room_for keep v.watches }) t (record v { watches = new })
     ⊎ ByClient (WatchesThere keep scan) v t (record v { watches = new })
 watched_here keep scan v client t new is (inl (n, told, kept)) =
     inr (at_some v.client (absent v.reading) (WatchesThere keep scan) client v t (record v { watches = new }) is
@@ -59,10 +59,10 @@ pub watched : (keep : Keep) (scan : Scan) (v b : PlaceState) (client : ClientSta
     (room new : List (Option Watched)) → v ≡ b → v.client ≡ Some client
     → watch ≡ new_watch client scan → room ≡ room_for keep v.watches
     → KeepsWatch keep watch t room new
-    → Lacks (record b { watches = room_for keep b.watches }) t (record v { watches = new })
+    → AnswersLack (record b { watches = room_for keep b.watches }) t (record v { watches = new })
     ⊎ ByClient (WatchesThere keep scan) b t (record v { watches = new })
 watched keep scan v b client watch t room new same is anew made kept =
-    subst (λ s. Lacks (record s { watches = room_for keep s.watches }) t (record v { watches = new })
+    subst (λ s. AnswersLack (record s { watches = room_for keep s.watches }) t (record v { watches = new })
     ⊎ ByClient (WatchesThere keep scan) s t (record v { watches = new })) same
     (watched_here keep scan v client t new is
     (subst (λ ws. KeepsWatch keep (new_watch client scan) t ws new) made
@@ -83,8 +83,8 @@ as_it_was v next n watch new there same =
 polled_here : (telling : Telling) (means : Meanings) (v : PlaceState) (client next : ClientState) (n : ℕ)
     (watch new : Watched) (t : Told) → v.client ≡ Some client → kept_at v.watches n ≡ Some watch
     → IsPolled telling means client next watch new t
-    → Stays ⊤ client next ⊎ ((next ≡ client) × (t ≡ dry) × (new ≡ watch))
-    → Lacks v t (with_watches next (slice_set v.watches n (Some new)) v)
+    → AfterQuery ⊤ client next ⊎ ((next ≡ client) × (t ≡ dry) × (new ≡ watch))
+    → AnswersLack v t (with_watches next (slice_set v.watches n (Some new)) v)
     ⊎ ByClient (PollsAt telling means n) v t (with_watches next (slice_set v.watches n (Some new)) v)
 polled_here telling means v client next n watch new t is there how (inr (same, lack, kept)) =
     inl (record {
@@ -120,10 +120,10 @@ polled_here telling means v client next n watch new t is there (inl (reply, answ
 pub polled : (telling : Telling) (means : Meanings) (v b : PlaceState) (client next : ClientState) (n : ℕ)
     (watch new : Watched) (t : Told) → v ≡ b → v.client ≡ Some client → kept_at v.watches n ≡ Some watch
     → IsPolled telling means client next watch new t
-    → Stays ⊤ client next ⊎ ((next ≡ client) × (t ≡ dry) × (new ≡ watch))
-    → Lacks b t (with_watches next (slice_set v.watches n (Some new)) v)
+    → AfterQuery ⊤ client next ⊎ ((next ≡ client) × (t ≡ dry) × (new ≡ watch))
+    → AnswersLack b t (with_watches next (slice_set v.watches n (Some new)) v)
     ⊎ ByClient (PollsAt telling means n) b t (with_watches next (slice_set v.watches n (Some new)) v)
 polled telling means v b client next n watch new t same is there how stays =
     let after = with_watches next (slice_set v.watches n (Some new)) v in
-    subst (λ s. Lacks s t after ⊎ ByClient (PollsAt telling means n) s t after) same
+    subst (λ s. AnswersLack s t after ⊎ ByClient (PollsAt telling means n) s t after) same
     (polled_here telling means v client next n watch new t is there how stays)

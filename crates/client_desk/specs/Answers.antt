@@ -17,13 +17,13 @@ use Rattle.head_word.specs.Books.{record_of}
 use Rattle.head_word.specs.Laws.{moment}
 use Rattle.push_body.specs.Bodies.{push_text}
 use Rattle.rebase.specs.Counting.{Counts, Found, SlotCounts}
-use Rattle.answered.specs.Answered.{IsAnswered, IsLeft, IsLinearized, IsPoint, no_change}
+use Rattle.linearized.specs.Answered.{IsAnswered, IsLeft, IsLinearized, IsPoint, no_change}
 use Rattle.chunk_slots.specs.Seats.{IsIdle}
-use Rattle.commit_graph.specs.Seats.{HasLooked, Seated}
-use Rattle.group_steps.specs.Missing.{IsMissedOrDry, IsStoreRefusal}
-use Rattle.rebase.specs.Clients.{ClientState, IsSameClient, Looks, Rests, Stays}
-use Rattle.rebase.specs.Clients.{Reads as Holds}
-use Rattle.rebase.specs.Queries.{asked_at, Asked as Begun}
+use Rattle.commit_graph.specs.Seats.{HasLooked, SeatState}
+use Rattle.change_tries.specs.Missing.{IsStoreOrMemory, IsStoreRefusal}
+use Rattle.rebase.specs.Clients.{ClientState, IsSameClient, AfterLook, HoldsNothing, AfterQuery}
+use Rattle.rebase.specs.Clients.{AfterRead as Holds}
+use Rattle.rebase.specs.Queries.{asked_at, AskedQuery as Begun}
 use Rattle.rebase.specs.Watching.{Watched, poll_at, watch_after}
 use Rattle.rebase.specs.declared.tickets.Ticket.{Ticket}
 use Rattle.rebase.specs.declared.watching.Polled.{Polled}
@@ -31,12 +31,12 @@ use Rattle.rebase.specs.declared.watching.Polled.TheVariants as polled
 use Rattle.row_changes.specs.declared.changes.RowChange.{RowChange}
 use Rattle.row_changes.specs.Changes.{AreChanges}
 use Rattle.uuid.specs.Text.{hyphenated_text, lower}
-use Rattle.client_desk.specs.declared.calls.Call.{Call}
-use Rattle.client_desk.specs.declared.calls.Call.TheVariants as call
-use Rattle.client_desk.specs.declared.faults.Fault.{Fault}
+use Rattle.client_desk.specs.declared.calls.DeskCall.{DeskCall}
+use Rattle.client_desk.specs.declared.calls.DeskCall.TheVariants as call
+use Rattle.client_desk.specs.declared.faults.CallFault.{CallFault}
 use Rattle.client_desk.specs.declared.outcomes.Outcome.{Outcome}
 use Rattle.client_desk.specs.declared.outcomes.Outcome.TheVariants.{Done, Faulty, Nothing, Number, Refused}
-use Rattle.client_desk.specs.declared.faults.Fault.TheVariants as fault
+use Rattle.client_desk.specs.declared.faults.CallFault.TheVariants as fault
 use Rattle.client_desk.specs.declared.calls.Keep.{Keep}
 use Rattle.client_desk.specs.Kept.{IsKeptAt, IsNumberFor, kept_at, room_for, without}
 use Rattle.client_desk.specs.Places.{PlaceState, client_at, free_place, read_through, sat, unsat, with_client}
@@ -55,16 +55,16 @@ Rule = PlaceState → Told → PlaceState → Type 0
 -- ---- where nothing is done
 
 -- this is told, and the place is as it was
-abbrev pub Tells : Outcome → Rule
-Tells outcome before t after = (t ≡ told_alone outcome) × (after ≡ before)
+abbrev pub TellsOutcome : Outcome → Rule
+TellsOutcome outcome before t after = (t ≡ told_alone outcome) × (after ≡ before)
 
 -- what is there, or what is told where it isn't
-abbrev pub At : {X : Type 0} → Option X → Fault → (X → Rule) → Rule
+abbrev pub At : {X : Type 0} → Option X → CallFault → (X → Rule) → Rule
 At (Some x) none rule = rule x
-At None none rule = Tells (Faulty none)
+At None none rule = TellsOutcome (Faulty none)
 
 -- why no client can be called: it has a reading open, or there is none
-abbrev pub absent : Option ClientState → Fault
+abbrev pub absent : Option ClientState → CallFault
 absent (Some reader) = fault.Reads
 absent None = fault.NoClient
 
@@ -85,53 +85,53 @@ pub record HasOnlyLooked (before after : PlaceState) : Type 0 where
   pub old : ClientState
   pub new : ClientState
   pub sits : before.client ≡ Some old
-  pub stays : Stays ⊤ old new
+  pub stays : AfterQuery ⊤ old new
   pub left : after ≡ with_client new before
 
 -- Memory was refused: nothing was changed, and the client knows no less.
-pub record Lacks (before : PlaceState) (t : Told) (after : PlaceState) : Type 0 where
+pub record AnswersLack (before : PlaceState) (t : Told) (after : PlaceState) : Type 0 where
   pub told : t ≡ dry
   pub left : (after ≡ before) ⊎ HasOnlyLooked before after
 
 -- ---- sitting down and leaving
 
 -- a client of this ID sits down on the seat
-pub record SitsDown (uuid : Bytes) (means : Meanings) (seat : Seated) (before : PlaceState) (t : Told)
+pub record SitsDown (uuid : Bytes) (means : Meanings) (seat : SeatState) (before : PlaceState) (t : Told)
     (after : PlaceState) : Type 0 where
   pub client : ClientState
   pub group : client.group ≡ before.group
   pub id : client.id ≡ hyphenated_text lower uuid
   pub answer : IsAnswered means seat.mark client.seat.mark None (λ s. last_id s client.id ≡ client.last)
   pub looked : HasLooked ⊤ seat client.seat
-  pub rests : Rests ⊤ client
+  pub rests : HoldsNothing ⊤ client
   pub told : t ≡ told_alone Done
   pub left : after ≡ sat client before
 
 -- it is refused, and the seat is free
-pub record IsTurnedAway (seat : Seated) (before : PlaceState) (t : Told) (after : PlaceState) : Type 0 where
-  pub back : Seated
+pub record IsTurnedAway (seat : SeatState) (before : PlaceState) (t : Told) (after : PlaceState) : Type 0 where
+  pub back : SeatState
   pub looked : HasLooked ⊤ seat back
   pub refusal : Refusal
-  pub missed : IsMissedOrDry ⊤ refusal
+  pub missed : IsStoreOrMemory ⊤ refusal
   pub alone : IsLeft tries seat.mark back.mark refusal
   pub told : t ≡ told_alone (Refused refusal)
   pub left : after ≡ unsat back before
 
-abbrev pub Sits : Meanings → Bytes → Rule
-Sits means uuid before =
+abbrev pub AnswersSit : Meanings → Bytes → Rule
+AnswersSit means uuid before =
     At before.seat fault.InUse (λ seat b t a. SitsDown uuid means seat b t a ⊎ IsTurnedAway seat b t a)
     before
 
 -- The client left, and this is its seat: nothing else was seen or done there, and it has no pin and no taken slot, also
 -- where it had a reading open.
-pub record HasLeft (client : ClientState) (seat : Seated) : Type 0 where
+pub record HasLeft (client : ClientState) (seat : SeatState) : Type 0 where
   pub looked : HasLooked ⊤ client.seat seat
   pub mark : seat.mark ≡ client.seat.mark
   pub rests : IsIdle seat.view
 
 -- the client leaves; its tickets and watches are given up
 pub record Leaves (client : ClientState) (before : PlaceState) (t : Told) (after : PlaceState) : Type 0 where
-  pub seat : Seated
+  pub seat : SeatState
   pub gone : HasLeft client seat
   pub told : t ≡ told_alone Done
   pub left : after ≡ free_place before.group seat
@@ -149,8 +149,8 @@ pub record ReadsBy {X : Type 0} (tell : X → Told) (right : State → X) (means
   pub reply : Result X Refusal
   pub answer : IsLinearized means tries client.seat.mark next.seat.mark reply no_change (λ s. Ok (right s))
   pub at : IfOk reply (λ x. x ≡ right (read_by next))
-  pub refused : IfErr reply (IsMissedOrDry ⊤)
-  pub stays : Stays ⊤ client next
+  pub refused : IfErr reply (IsStoreOrMemory ⊤)
+  pub stays : AfterQuery ⊤ client next
   pub told : t ≡ tells tell reply
 
 -- the moment of a place's last query then: of one that is answered, where it was read; a refused one leaves it
@@ -159,8 +159,8 @@ moment_by (Ok x) reader n = moment reader.seat.mark.log
 moment_by (Err e) reader n = n
 
 -- nothing else of the place changes
-abbrev pub Reads : {X : Type 0} → (X → Told) → (State → X) → Meanings → ClientState → Rule
-Reads tell right means client before t after =
+abbrev pub AnswersRead : {X : Type 0} → (X → Told) → (State → X) → Meanings → ClientState → Rule
+AnswersRead tell right means client before t after =
     (next : ClientState) × (read : ReadsBy tell right means client t next)
     × (after ≡ with_moment (moment_by read.reply next before.moment) (with_client next before))
 
@@ -168,7 +168,7 @@ Reads tell right means client before t after =
 pub record ReadsKept {X : Type 0} (tell : X → Told) (right : State → X) (reader : ClientState) (t : Told) : Type 0 where
   pub reply : Result X Refusal
   pub answer : IfOk reply (λ x. x ≡ right (read_by reader))
-  pub refused : IfErr reply (IsMissedOrDry ⊤)
+  pub refused : IfErr reply (IsStoreOrMemory ⊤)
   pub told : t ≡ tells tell reply
 
 -- A query: by the reading that is open, which changes nothing but the last moment; or by the client.
@@ -176,10 +176,10 @@ abbrev pub AsksAs : {X : Type 0} → (X → Told) → (ClientState → State →
 AsksAs tell right means (Some reader) before t after =
     (read : ReadsKept tell (right reader) reader t)
     × (after ≡ with_moment (moment_by read.reply reader before.moment) before)
-AsksAs tell right means None before t after = ByClient (λ c. Reads tell (right c) means c) before t after
+AsksAs tell right means None before t after = ByClient (λ c. AnswersRead tell (right c) means c) before t after
 
-abbrev pub Asks : {X : Type 0} → (X → Told) → (ClientState → State → X) → Meanings → Rule
-Asks tell right means before = AsksAs tell right means before.reading before
+abbrev pub AnswersQuery : {X : Type 0} → (X → Told) → (ClientState → State → X) → Meanings → Rule
+AnswersQuery tell right means before = AsksAs tell right means before.reading before
 
 -- The client looks where the head is, and does nothing else. The number of that moment is told.
 pub record TellsMoment (means : Meanings) (client : ClientState) (before : PlaceState) (t : Told)
@@ -213,7 +213,7 @@ pub record LosesReading (client : ClientState) (before : PlaceState) (t : Told) 
   pub next : ClientState
   pub refusal : Refusal
   pub missed : IsStoreRefusal ⊤ refusal
-  pub stays : Stays ⊤ client next
+  pub stays : AfterQuery ⊤ client next
   pub told : t ≡ told_alone (Refused refusal)
   pub left : after ≡ with_client next before
 
@@ -224,7 +224,7 @@ MayBeginReading means client before t after =
 -- The reading ends: its pin is taken away, and its client sits there and knows what it knew.
 pub record EndsReading (reader : ClientState) (before : PlaceState) (t : Told) (after : PlaceState) : Type 0 where
   pub client : ClientState
-  pub stays : Stays ⊤ reader client
+  pub stays : AfterQuery ⊤ reader client
   pub mark : client.seat.mark ≡ reader.seat.mark
   pub told : t ≡ told_alone Done
   pub left : after ≡ read_through client before
@@ -240,7 +240,7 @@ pub record Refreshes (means : Meanings) (client : ClientState) (before : PlaceSt
     pub id : IfOk reply (λ n. next.last ≡ n)
     pub last : IfErr reply (λ _. next.last ≡ client.last)
     pub refused : IfErr reply (IsStoreRefusal ⊤)
-    pub looks : Looks ⊤ client next
+    pub looks : AfterLook ⊤ client next
     pub told : t ≡ tells id_told reply
     pub left : after ≡ with_client next before
 
@@ -260,7 +260,7 @@ CountsFree client before t after =
     (next : ClientState) × CountsBy client t next × (after ≡ with_client next before)
 
 -- A pull is begun: its request is told, and the number under which its ticket is kept.
-pub record Keeps (keep : Keep) (asked : Begun) (next : ClientState) (before : PlaceState) (t : Told)
+pub record KeepsBegun (keep : Keep) (asked : Begun) (next : ClientState) (before : PlaceState) (t : Told)
     (after : PlaceState) : Type 0 where
   pub number : ℕ
   pub kept : Ticket
@@ -272,18 +272,18 @@ pub record Keeps (keep : Keep) (asked : Begun) (next : ClientState) (before : Pl
   pub left : after ≡ with_tickets next tickets before
 
 abbrev pub IsBegun : Keep → Result Begun Refusal → ClientState → Rule
-IsBegun keep (Ok asked) next before t after = Keeps keep asked next before t after
+IsBegun keep (Ok asked) next before t after = KeepsBegun keep asked next before t after
 IsBegun keep (Err e) next before t after = (t ≡ told_alone (Refused e)) × (after ≡ with_client next before)
 
-pub record Begins (keep : Keep) (means : Meanings) (client : ClientState) (before : PlaceState) (t : Told)
+pub record BeginsPull (keep : Keep) (means : Meanings) (client : ClientState) (before : PlaceState) (t : Told)
     (after : PlaceState) : Type 0
   where
     pub reply : Result Begun Refusal
     pub next : ClientState
     pub answer : IsLinearized means tries client.seat.mark next.seat.mark reply no_change
         (λ s. Ok (asked_at client.group.identity s))
-    pub refused : IfErr reply (IsMissedOrDry ⊤)
-    pub stays : Stays ⊤ client next
+    pub refused : IfErr reply (IsStoreOrMemory ⊤)
+    pub stays : AfterQuery ⊤ client next
     pub begun : IsBegun keep reply next before t after
 
 -- the ticket of a number is given up
@@ -328,8 +328,8 @@ pub record PollsAs (telling : Telling) (means : Meanings) (client : ClientState)
   pub next : ClientState
   pub answer : IsLinearized means tries client.seat.mark next.seat.mark reply no_change
       (λ s. Ok (poll_at means watch s))
-  pub refused : IfErr reply (IsMissedOrDry ⊤)
-  pub stays : Stays ⊤ client next
+  pub refused : IfErr reply (IsStoreOrMemory ⊤)
+  pub stays : AfterQuery ⊤ client next
   pub told : telling watch reply t
   pub left : after ≡ with_watches next (slice_set before.watches n (Some (watch_after watch reply))) before
 
@@ -340,7 +340,7 @@ abbrev pub PollsChanges : Meanings → ClientState → ℕ → Watched → Rule
 PollsChanges = PollsAs TellsChanges
 
 -- where a number is said under which something is to be kept, what is kept there is given up first
-abbrev pub made_room : Call → PlaceState → PlaceState
+abbrev pub made_room : DeskCall → PlaceState → PlaceState
 made_room (call.Begin keep) p = record p { tickets = room_for keep p.tickets }
 made_room (call.Watch keep scan) p = record p { watches = room_for keep p.watches }
 made_room other p = p
@@ -348,30 +348,30 @@ made_room other p = p
 -- ---- any call that is no change of the group
 
 -- a query
-abbrev pub AnswersReading : Meanings → Call → Rule
-AnswersReading means (call.Get key) = Asks value_told (λ c s. get_at means s key.now) means
-AnswersReading means (call.Has key) = Asks is_told (λ c s. has_at means s key.now) means
-AnswersReading means (call.Scan scan) = Asks rows_told (λ c s. view_rows means s scan.now) means
-AnswersReading means (call.PulledGet key) = Asks value_told (λ c s. finite.get s.pulled key.now) means
-AnswersReading means (call.PulledScan scan) = Asks rows_told (λ c s. rows_of scan.now s.pulled) means
-AnswersReading means call.Empty = Asks is_told (λ c s. is_empty_at means s) means
-AnswersReading means call.Pending = Asks pending_told (λ c s. s.pending) means
-AnswersReading means call.Cookie = Asks cookie_told (λ c s. s.cookie) means
-AnswersReading means call.Closed = Asks is_told (λ c s. s.closed) means
+abbrev pub AnswersReading : Meanings → DeskCall → Rule
+AnswersReading means (call.Get key) = AnswersQuery value_told (λ c s. get_at means s key.now) means
+AnswersReading means (call.Has key) = AnswersQuery is_told (λ c s. has_at means s key.now) means
+AnswersReading means (call.Scan scan) = AnswersQuery rows_told (λ c s. view_rows means s scan.now) means
+AnswersReading means (call.PulledGet key) = AnswersQuery value_told (λ c s. finite.get s.pulled key.now) means
+AnswersReading means (call.PulledScan scan) = AnswersQuery rows_told (λ c s. rows_of scan.now s.pulled) means
+AnswersReading means call.Empty = AnswersQuery is_told (λ c s. is_empty_at means s) means
+AnswersReading means call.Pending = AnswersQuery pending_told (λ c s. s.pending) means
+AnswersReading means call.Cookie = AnswersQuery cookie_told (λ c s. s.cookie) means
+AnswersReading means call.Closed = AnswersQuery is_told (λ c s. s.closed) means
 AnswersReading means (call.Push skip) =
-    Asks bytes_told (λ c s. push_text c.group.identity (drop skip s.pending)) means
+    AnswersQuery bytes_told (λ c s. push_text c.group.identity (drop skip s.pending)) means
 AnswersReading means call.Moment = λ b. TellsMomentAs means b.reading b
-AnswersReading means other = Tells (Faulty fault.NotAsked)
+AnswersReading means other = TellsOutcome (Faulty fault.NotAsked)
 
 -- and what a client does beside queries and changes
-abbrev pub AnswersLooking : Meanings → Call → Rule
-AnswersLooking means (call.Sit id) = Sits means id.now
+abbrev pub AnswersLooking : Meanings → DeskCall → Rule
+AnswersLooking means (call.Sit id) = AnswersSit means id.now
 AnswersLooking means call.Leave = ByAny Leaves
 AnswersLooking means call.BeginRead = ByClient (MayBeginReading means)
 AnswersLooking means call.EndRead = ByReader EndsReading
 AnswersLooking means call.Slots = ByClient CountsFree
 AnswersLooking means call.Refresh = ByClient (Refreshes means)
-AnswersLooking means (call.Begin keep) = ByClient (λ c b. Begins keep means c (made_room (call.Begin keep) b))
+AnswersLooking means (call.Begin keep) = ByClient (λ c b. BeginsPull keep means c (made_room (call.Begin keep) b))
 AnswersLooking means (call.Forget n) = λ b. At (kept_at b.tickets n) fault.NoTicket (Forgets n) b
 AnswersLooking means (call.Watch keep scan) = ByClient (λ c b. Watches keep scan.now c
     (made_room (call.Watch keep scan) b))

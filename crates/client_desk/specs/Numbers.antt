@@ -5,8 +5,8 @@ use Rattle.group_history.specs.declared.refusals.Refusal.TheVariants as refusal
 use Rattle.group_history.specs.declared.responses.VersionKind.{VersionKind}
 use Rattle.group_history.specs.declared.responses.VersionKind.TheVariants as kind
 use Rattle.group_history.specs.Refusals.{refusal_number}
-use Rattle.client_desk.specs.declared.faults.Fault.{Fault}
-use Rattle.client_desk.specs.declared.faults.Fault.TheVariants as fault
+use Rattle.client_desk.specs.declared.faults.CallFault.{CallFault}
+use Rattle.client_desk.specs.declared.faults.CallFault.TheVariants as fault
 use Rattle.client_desk.specs.declared.outcomes.Outcome.{Outcome}
 use Rattle.client_desk.specs.declared.outcomes.Outcome.TheVariants as outcome
 
@@ -23,7 +23,7 @@ refusal_code (refusal.VersionNotSupported kind) = kind_number kind
 refusal_code e = 0
 
 -- how many numbers below -1 that of a fault is
-abbrev pub fault_place : Fault → ℕ
+abbrev pub fault_place : CallFault → ℕ
 -- by tools/refusals: place cases of faults
 fault_place fault.NotUtf8 = 100
 fault_place fault.BadUuid = 101
@@ -41,7 +41,7 @@ fault_place fault.NotRead = 112
 
 -- tools/refusals: end
 
-abbrev pub fault_number : Fault → ℤ
+abbrev pub fault_number : CallFault → ℤ
 fault_number e = negsuc (fault_place e)
 
 abbrev pub is_number : Bool → ℤ

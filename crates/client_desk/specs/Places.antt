@@ -1,7 +1,7 @@
 -- How a place stands. This project's own words.
 use Rattle.std.specs.Prelude.{ℕ, [], List, Option, Some, None}
 use Rattle.std.specs.Option.{option_or}
-use Rattle.commit_graph.specs.Seats.{Seated}
+use Rattle.commit_graph.specs.Seats.{SeatState}
 use Rattle.rebase.specs.Clients.{ClientState, Grouped}
 use Rattle.rebase.specs.Running.{UnderWay}
 use Rattle.rebase.specs.Watching.{Watched}
@@ -12,7 +12,7 @@ use Rattle.rebase.specs.declared.tickets.Ticket.{Ticket}
 -- moment of the query that was answered there last, 0 before the first.
 pub record PlaceState : Type 0 where
   pub group : Grouped
-  pub seat : Option Seated
+  pub seat : Option SeatState
   pub client : Option ClientState
   pub asking : Option UnderWay
   pub reading : Option ClientState
@@ -21,7 +21,7 @@ pub record PlaceState : Type 0 where
   pub moment : ℕ
 
 -- nobody sits there, and nothing is kept
-abbrev pub free_place : Grouped → Seated → PlaceState
+abbrev pub free_place : Grouped → SeatState → PlaceState
 free_place group seat = record {
   group = group;
   seat = Some seat;
@@ -38,7 +38,7 @@ abbrev pub sat : ClientState → PlaceState → PlaceState
 sat c p = record p { seat = None; client = Some c }
 
 -- the seat was handed back, since the client that was to sit there was refused
-abbrev pub unsat : Seated → PlaceState → PlaceState
+abbrev pub unsat : SeatState → PlaceState → PlaceState
 unsat seat p = record p { seat = Some seat }
 
 -- the client made a call, and stands so now

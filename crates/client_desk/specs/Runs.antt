@@ -12,28 +12,28 @@ use Rattle.group_history.specs.Pull.{Pull}
 use Rattle.group_history.specs.Ran.{RunsAs}
 use Rattle.commit_graph.specs.Seats.{IsSeatOf}
 use Rattle.pull_patch.specs.Grammar.{answer_to}
-use Rattle.answered.specs.Answered.{own_moves}
-use Rattle.group_steps.specs.Leaving.{Frees}
-use Rattle.rebase.specs.Clients.{Acts, ClientState, Grouped}
+use Rattle.linearized.specs.Answered.{own_moves}
+use Rattle.change_tries.specs.Leaving.{Frees}
+use Rattle.rebase.specs.Clients.{AfterChange, ClientState, Grouped}
 use Rattle.rebase.specs.Replies.{Replied}
-use Rattle.rebase.specs.Running.{BeganAs, EndsCall, Follows, IsAsked, IsFirst, IsUnwritten, UnderWay}
+use Rattle.rebase.specs.Running.{BeganAs, EndsCall, Follows, IsAsked, IsFirstAsked, IsUnwritten, UnderWay}
 use Rattle.client_desk.specs.Answers.{tries}
 
 -- The first run that the group doesn't make itself is asked for by this change, of a call that began with this client.
 -- Nothing is written to its map yet.
-abbrev pub AsksFor : (Bytes → Bool) → Meanings → ClientState → Change → UnderWay → Type 0
-AsksFor has means client change asking = IsAsked means ⊤ tries client change asking × IsFirst has asking
+abbrev pub AsksForRun : (Bytes → Bool) → Meanings → ClientState → Change → UnderWay → Type 0
+AsksForRun has means client change asking = IsAsked means ⊤ tries client change asking × IsFirstAsked has asking
     × IsUnwritten has asking
 
 -- and at the end of a pull, by the response that the bytes are
 abbrev pub AsksAtEnd : (Bytes → Bool) → Meanings → ClientState → Cookie → Bytes → UnderWay → Type 0
 AsksAtEnd has means client ticket body asking = ((r : Pull) × (answer_to body ≡ Ok (response.Ok r))
-    × IsAsked means ⊤ tries client (Pulled ticket r) asking) × IsFirst has asking × IsUnwritten has asking
+    × IsAsked means ⊤ tries client (Pulled ticket r) asking) × IsFirstAsked has asking × IsUnwritten has asking
 
 -- After a run that ended so, this one is asked for: the next one behind it that the group doesn't make itself, from the
 -- map that those before left; or, where others moved the head first, the first one of a later try. It is of the same
 -- change, and of the same call, whichever client that began with.
-pub record AsksNext (has : Bytes → Bool) (means : Meanings) (was : UnderWay) (ran : Ran) (asking : UnderWay) : Type 0
+pub record AsksNextRun (has : Bytes → Bool) (means : Meanings) (was : UnderWay) (ran : Ran) (asking : UnderWay) : Type 0
   where
     pub follows : Follows has means was ran asking
     pub fresh : IsUnwritten has asking
@@ -64,12 +64,12 @@ IsRunTold has means None ran = ⊤
 
 -- The call that began with this client and asked for the change was given up: it left the group as others did, and the
 -- client has its last id.
-pub record IsGivenUp (change : Change) (before after : ClientState) : Type 0 where
-  pub acts : Acts ⊤ before after
+pub record IsGivenUpAsked (change : Change) (before after : ClientState) : Type 0 where
+  pub acts : AfterChange ⊤ before after
   pub last : after.last ≡ before.last
   pub own : own_moves after.seat.mark ≡ own_moves before.seat.mark
   pub frees : Frees (Some change) 0 before.seat after.seat None
 
 -- whichever client it began with
 abbrev pub GaveUp : Meanings → UnderWay → ClientState → Type 0
-GaveUp means asking client = (c : ClientState) → BeganAs means ⊤ c asking → IsGivenUp asking.change c client
+GaveUp means asking client = (c : ClientState) → BeganAs means ⊤ c asking → IsGivenUpAsked asking.change c client

@@ -1,13 +1,13 @@
 -- Who sits at a place.
 use Rattle.std.specs.Prelude.{Option, Some, None}
-use Rattle.commit_graph.specs.Seats.{Seated}
+use Rattle.commit_graph.specs.Seats.{SeatState}
 use Rattle.rebase.specs.Clients.{ClientState}
 use Rattle.rebase.specs.Running.{UnderWay}
 use Rattle.client_desk.specs.declared.sitting.Sitting.{Sitting}
 use Rattle.client_desk.specs.declared.sitting.Sitting.TheVariants as sits
 
 -- the seat at which nobody sits
-abbrev pub seat_of : {M : Type 0} → Sitting M → Option Seated
+abbrev pub seat_of : {M : Type 0} → Sitting M → Option SeatState
 seat_of (sits.Nobody seat) = Some seat
 seat_of (sits.Client c) = None
 seat_of (sits.Asking a) = None

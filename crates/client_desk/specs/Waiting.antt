@@ -3,19 +3,19 @@ use Rattle.std.specs.Prelude.{◌≡◌, false, true, ⊤, Result, IfErr}
 use Rattle.group_history.specs.declared.refusals.Refusal.{Refusal}
 use Rattle.group_history.specs.Map.{Bytes}
 use Rattle.group_history.specs.Meaning.{Meanings}
-use Rattle.answered.specs.Answered.{IsLinearized}
-use Rattle.group_steps.specs.Causes.{HasCause}
-use Rattle.group_steps.specs.Leaving.{FreesAnew}
+use Rattle.linearized.specs.Answered.{IsLinearized}
+use Rattle.change_tries.specs.Causes.{HasCause}
+use Rattle.change_tries.specs.Leaving.{FreesAnew}
 use Rattle.rebase.specs.Asking.{is_passing}
 use Rattle.rebase.specs.Calls.{caller_of, change_for, change_of, last_after, reply_to}
-use Rattle.rebase.specs.Clients.{Acts, ClientState}
+use Rattle.rebase.specs.Clients.{AfterChange, ClientState}
 use Rattle.rebase.specs.Replies.{Replied}
 use Rattle.rebase.specs.declared.calls.Call.{Call as Changing}
 use Rattle.rebase.specs.declared.calls.Call.TheVariants as changing
 use Rattle.rebase.specs.declared.tickets.Ticket.{Ticket}
-use Rattle.client_desk.specs.declared.calls.Call.{Call}
-use Rattle.client_desk.specs.declared.calls.Call.TheVariants as call
-use Rattle.client_desk.specs.declared.faults.Fault.TheVariants as fault
+use Rattle.client_desk.specs.declared.calls.DeskCall.{DeskCall}
+use Rattle.client_desk.specs.declared.calls.DeskCall.TheVariants as call
+use Rattle.client_desk.specs.declared.faults.CallFault.TheVariants as fault
 use Rattle.client_desk.specs.Answers.{At, ByClient, Rule}
 use Rattle.client_desk.specs.Calls.{MayAnswer}
 use Rattle.client_desk.specs.Kept.{kept_at}
@@ -34,7 +34,7 @@ pub record Waits (means : Meanings) (is : Changing → Type 0) (client : ClientS
       (λ s. reply_to means (caller_of client) s made)
   pub lasting : is_passing reply ≡ false
   pub last : next.last ≡ last_after client.last reply
-  pub acts : Acts ⊤ client next
+  pub acts : AfterChange ⊤ client next
   pub cause : IfErr reply (HasCause means ⊤ client.last (change_for (caller_of client) made) client.seat next.seat)
   pub frees : FreesAnew (change_for (caller_of client) made) client.seat next.seat
       (change_of (caller_of client) made reply)
@@ -47,7 +47,7 @@ IsEndOf kept body (changing.EndPull at bytes) = (at.now ≡ kept) × (bytes.now 
 IsEndOf kept body other = ⊥
 
 -- a call at such a place: a change waits for others
-abbrev pub MayAnswerWaiting : Meanings → Call → Rule
+abbrev pub MayAnswerWaiting : Meanings → DeskCall → Rule
 MayAnswerWaiting means (call.Mutate m) = ByClient (Waits means (λ x. x ≡ changing.Mutate m))
 MayAnswerWaiting means (call.End n body) = ByClient (λ c b. At (kept_at b.tickets n) fault.NoTicket
     (λ kept. Waits means (IsEndOf kept body.now) c) b)

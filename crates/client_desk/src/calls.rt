@@ -14,7 +14,7 @@ pub enum Keep {
 
 /// A call at a place, with what it is given.
 #[derive(Clone, Copy)]
-pub enum Call<'a> {
+pub enum DeskCall<'a> {
     /// A client of this ID sits down.
     Sit(&'a Uuid),
     /// It leaves.

@@ -2,10 +2,11 @@
 ghost use Rattle.std.specs.Prelude.{◌≡◌, ◌⊎◌, [], is_some};
 ghost use Rattle.std.specs.FinMap as finite;
 ghost use Rattle.group_history.specs.Scans.{rows_of};
-ghost use Rattle.client_desk.specs.declared.faults.Fault.TheVariants as fault;
-ghost use Rattle.client_desk.specs.Answers.{At, ByClient, Lacks};
+ghost use Rattle.client_desk.specs.declared.faults.CallFault.TheVariants as fault;
+ghost use Rattle.client_desk.specs.Answers.{At, ByClient, AnswersLack};
 ghost use Rattle.client_desk.specs.Calls.{MayAnswer, MayLackAsked};
-ghost use Rattle.client_desk.specs.Drafts.{AnswersAsked, AnswersDraft, AsksToEnd, AsksToMutate, ByRun, GivesUp, GoesOn};
+ghost use Rattle.client_desk.specs.Drafts.{AnswersAsked, AnswersDraft, AsksToEnd, AsksToMutate};
+ghost use Rattle.client_desk.specs.Drafts.{ByRun, GivesUpRun, GoesOnRun};
 ghost use Rattle.client_desk.specs.Drafts.{HasRunAsMeant, LeavesAsked, ReadsDraft, TellsThis, WritesAll, WritesDraft};
 ghost use Rattle.client_desk.specs.Drafts.{WritesMap};
 ghost use Rattle.client_desk.specs.Inside.Sitting.{IsStepAt, IsTakenFrom, Stands};
@@ -14,12 +15,12 @@ ghost use Rattle.client_desk.specs.Runs.{IsRunTold};
 ghost use Rattle.client_desk.specs.Told.{bytes_told, is_told, named_told, rows_told, run_told, told, told_alone};
 ghost use Rattle.client_desk.specs.Told.{value_told};
 
-use crate::calls::Call;
+use crate::calls::DeskCall;
 use crate::drafts::{
     del_drafted, put_drafted, replied_outcome, tell_args, tell_drafted, tell_drafted_rows,
     tell_is_drafted, tell_name, tell_run, write_drafted,
 };
-use crate::faults::Fault;
+use crate::faults::CallFault;
 use crate::kept::kept_at;
 use crate::mutators::HostRuns;
 use crate::outcomes::Outcome;
@@ -62,7 +63,7 @@ impl<M: HostRuns> Place<M> {
         };
         let Some(ticket) = kept_at(&self.tickets, number) else {
             self.put(Sitting::Client(client));
-            return Outcome::Faulty(Fault::NoTicket);
+            return Outcome::Faulty(CallFault::NoTicket);
         };
         let step = client.ask_end_pull(ticket, body, TRIES);
         self.go_on(step)
@@ -88,22 +89,22 @@ impl<M: HostRuns> Place<M> {
     // The name of the mutator that is to be run, and for which reason.
     fn asked_name(&mut self, bytes: &mut Vec<u8>) -> Outcome
         requires { bytes.old.items ≡ [] }
-        ensures { Lacks self.old (told result bytes.new.items) self.new
+        ensures { AnswersLack self.old (told result bytes.new.items) self.new
             ⊎ ByRun (λ a. TellsThis (named_told a.mutation)) self.old (told result bytes.new.items) self.new }
     {
         let Sitting::Asking(asking) = &self.sitting else {
-            return Outcome::Faulty(Fault::NotAsked);
+            return Outcome::Faulty(CallFault::NotAsked);
         };
         tell_name(asking, bytes)
     }
 
     fn asked_args(&mut self, bytes: &mut Vec<u8>) -> Outcome
         requires { bytes.old.items ≡ [] }
-        ensures { Lacks self.old (told result bytes.new.items) self.new
+        ensures { AnswersLack self.old (told result bytes.new.items) self.new
             ⊎ ByRun (λ a. TellsThis (bytes_told a.mutation.args)) self.old (told result bytes.new.items) self.new }
     {
         let Sitting::Asking(asking) = &self.sitting else {
-            return Outcome::Faulty(Fault::NotAsked);
+            return Outcome::Faulty(CallFault::NotAsked);
         };
         tell_args(asking, bytes)
     }
@@ -111,11 +112,11 @@ impl<M: HostRuns> Place<M> {
     // All of the run in one.
     fn asked_run(&mut self, bytes: &mut Vec<u8>) -> Outcome
         requires { bytes.old.items ≡ [] }
-        ensures { Lacks self.old (told result bytes.new.items) self.new
+        ensures { AnswersLack self.old (told result bytes.new.items) self.new
             ⊎ ByRun (λ a. TellsThis (run_told a.mutation)) self.old (told result bytes.new.items) self.new }
     {
         let Sitting::Asking(asking) = &self.sitting else {
-            return Outcome::Faulty(Fault::NotAsked);
+            return Outcome::Faulty(CallFault::NotAsked);
         };
         tell_run(self.alloc, asking, bytes)
     }
@@ -126,7 +127,7 @@ impl<M: HostRuns> Place<M> {
             self.new }
     {
         let Sitting::Asking(asking) = &self.sitting else {
-            return Outcome::Faulty(Fault::NotAsked);
+            return Outcome::Faulty(CallFault::NotAsked);
         };
         tell_drafted(asking, key, bytes)
     }
@@ -136,7 +137,7 @@ impl<M: HostRuns> Place<M> {
             self.new }
     {
         let Sitting::Asking(asking) = &self.sitting else {
-            return Outcome::Faulty(Fault::NotAsked);
+            return Outcome::Faulty(CallFault::NotAsked);
         };
         tell_is_drafted(asking, key)
     }
@@ -146,7 +147,7 @@ impl<M: HostRuns> Place<M> {
         ensures { ByRun (ReadsDraft rows_told (rows_of scan.now)) self.old (told result bytes.new.items) self.new }
     {
         let Sitting::Asking(asking) = &self.sitting else {
-            return Outcome::Faulty(Fault::NotAsked);
+            return Outcome::Faulty(CallFault::NotAsked);
         };
         tell_drafted_rows(asking, scan, bytes)
     }
@@ -156,7 +157,7 @@ impl<M: HostRuns> Place<M> {
             (told_alone result) self.new }
     {
         let Sitting::Asking(asking) = &mut self.sitting else {
-            return Outcome::Faulty(Fault::NotAsked);
+            return Outcome::Faulty(CallFault::NotAsked);
         };
         put_drafted(asking, key, value)
     }
@@ -166,7 +167,7 @@ impl<M: HostRuns> Place<M> {
             self.new }
     {
         let Sitting::Asking(asking) = &mut self.sitting else {
-            return Outcome::Faulty(Fault::NotAsked);
+            return Outcome::Faulty(CallFault::NotAsked);
         };
         del_drafted(asking, key)
     }
@@ -175,7 +176,7 @@ impl<M: HostRuns> Place<M> {
         ensures { ByRun (WritesDraft (WritesAll writes.now)) self.old (told_alone result) self.new }
     {
         let Sitting::Asking(asking) = &mut self.sitting else {
-            return Outcome::Faulty(Fault::NotAsked);
+            return Outcome::Faulty(CallFault::NotAsked);
         };
         write_drafted(asking, writes)
     }
@@ -183,7 +184,7 @@ impl<M: HostRuns> Place<M> {
     // The run that is asked for ended so.
     fn ran(&mut self, ran: Ran) -> Outcome
         requires { IsRunTold M.had M.means self.old.asking ran }
-        ensures { ByRun (GoesOn M.had M.means ran) self.old (told_alone result) self.new }
+        ensures { ByRun (GoesOnRun M.had M.means ran) self.old (told_alone result) self.new }
     {
         match self.take() {
             Sitting::Asking(asking) => {
@@ -192,14 +193,14 @@ impl<M: HostRuns> Place<M> {
             }
             other => {
                 self.put(other);
-                return Outcome::Faulty(Fault::NotAsked);
+                return Outcome::Faulty(CallFault::NotAsked);
             }
         }
     }
 
     // The change is given up: nothing was changed, and its client sits there.
     fn give_up(&mut self) -> Outcome
-        ensures { ByRun (GivesUp M.means) self.old (told_alone result) self.new }
+        ensures { ByRun (GivesUpRun M.means) self.old (told_alone result) self.new }
     {
         match self.take() {
             Sitting::Asking(asking) => {
@@ -208,7 +209,7 @@ impl<M: HostRuns> Place<M> {
             }
             other => {
                 self.put(other);
-                return Outcome::Faulty(Fault::NotAsked);
+                return Outcome::Faulty(CallFault::NotAsked);
             }
         }
     }
@@ -224,42 +225,42 @@ impl<M: HostRuns> Place<M> {
             }
             other => {
                 self.put(other);
-                return Outcome::Faulty(Fault::NotAsked);
+                return Outcome::Faulty(CallFault::NotAsked);
             }
         }
     }
 
     // Makes a call on the run that is asked for.
-    fn call_draft(&mut self, call: Call<'_>, bytes: &mut Vec<u8>) -> Outcome
+    fn call_draft(&mut self, call: DeskCall<'_>, bytes: &mut Vec<u8>) -> Outcome
         requires { bytes.old.items ≡ [] }
-        ensures { (MayLackAsked call.entry × Lacks self.old (told result bytes.new.items) self.new)
+        ensures { (MayLackAsked call.entry × AnswersLack self.old (told result bytes.new.items) self.new)
             ⊎ AnswersDraft call.entry self.old (told result bytes.new.items) self.new }
     {
         match call {
-            Call::AskedName => self.asked_name(bytes),
-            Call::AskedArgs => self.asked_args(bytes),
-            Call::AskedRun => self.asked_run(bytes),
-            Call::DraftGet(key) => self.draft_get(key, bytes),
-            Call::DraftHas(key) => self.draft_has(key),
-            Call::DraftScan(range) => self.draft_scan(range, bytes),
-            Call::DraftPut(key, value) => self.draft_put(key, value),
-            Call::DraftDel(key) => self.draft_del(key),
-            Call::DraftWrites(writes) => self.draft_writes(writes),
-            _ => Outcome::Faulty(Fault::Asks),
+            DeskCall::AskedName => self.asked_name(bytes),
+            DeskCall::AskedArgs => self.asked_args(bytes),
+            DeskCall::AskedRun => self.asked_run(bytes),
+            DeskCall::DraftGet(key) => self.draft_get(key, bytes),
+            DeskCall::DraftHas(key) => self.draft_has(key),
+            DeskCall::DraftScan(range) => self.draft_scan(range, bytes),
+            DeskCall::DraftPut(key, value) => self.draft_put(key, value),
+            DeskCall::DraftDel(key) => self.draft_del(key),
+            DeskCall::DraftWrites(writes) => self.draft_writes(writes),
+            _ => Outcome::Faulty(CallFault::Asks),
         }
     }
 
     // Makes a call where a change asks for a run.
-    fn call_asked(&mut self, call: Call<'_>, bytes: &mut Vec<u8>) -> Outcome
+    fn call_asked(&mut self, call: DeskCall<'_>, bytes: &mut Vec<u8>) -> Outcome
         requires run { HasRunAsMeant M.had M.means self.old call }
         requires empty { bytes.old.items ≡ [] }
-        ensures { (MayLackAsked call.entry × Lacks self.old (told result bytes.new.items) self.new)
+        ensures { (MayLackAsked call.entry × AnswersLack self.old (told result bytes.new.items) self.new)
             ⊎ AnswersAsked M.had M.means call.entry self.old (told result bytes.new.items) self.new }
     {
         match call {
-            Call::Leave => self.leave_asked(),
-            Call::Ran(ran) => self.ran(ran),
-            Call::GiveUp => self.give_up(),
+            DeskCall::Leave => self.leave_asked(),
+            DeskCall::Ran(ran) => self.ran(ran),
+            DeskCall::GiveUp => self.give_up(),
             other => self.call_draft(other, bytes),
         }
     }
@@ -276,7 +277,7 @@ impl<M: HostRuns> Place<M> {
 
     /// Makes a call. What it tells as bytes is written, none where it was refused. Where it tells that a run has ended,
     /// the run is one of what the group's mutators mean.
-    pub fn call(&mut self, call: Call<'_>, bytes: &mut Vec<u8>) -> Outcome
+    pub fn call(&mut self, call: DeskCall<'_>, bytes: &mut Vec<u8>) -> Outcome
         requires run { HasRunAsMeant M.had M.means self.old call }
         requires empty { bytes.old.items ≡ [] }
         ensures { MayAnswer M.had M.means call.entry self.old (told result bytes.new.items) self.new }
@@ -285,8 +286,8 @@ impl<M: HostRuns> Place<M> {
             return self.call_asked(call, bytes);
         }
         match call {
-            Call::Mutate(asked) => self.mutate(asked),
-            Call::End(number, body) => self.end(number, body),
+            DeskCall::Mutate(asked) => self.mutate(asked),
+            DeskCall::End(number, body) => self.end(number, body),
             other => self.call_calm(other, bytes),
         }
     }

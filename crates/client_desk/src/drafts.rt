@@ -2,7 +2,7 @@
 ghost use Rattle.std.specs.Prelude.{◌≡◌, ⊤, [], IfErr, OnErr, OnOk};
 ghost use Rattle.std.specs.FinMap as finite;
 ghost use Rattle.group_history.specs.Scans.{rows_of};
-ghost use Rattle.group_steps.specs.Missing.{IsMissedOrDry, map_ok};
+ghost use Rattle.change_tries.specs.Missing.{IsStoreOrMemory, map_ok};
 ghost use Rattle.pull_patch.specs.Writes.{wrote};
 ghost use Rattle.rebase.specs.Replies.{reply_seen};
 ghost use Rattle.client_desk.specs.Drafts.{ReadsMap, WritesAll, WritesMap};
@@ -17,7 +17,7 @@ use crate::reading::wrote;
 use group_history::{Ended, Json, Means, Mutation, Reason, Refusal, Scan};
 use pull_patch::Write;
 use push_body::mutation_bytes;
-use rebase::{Arena, Asking, Reply};
+use rebase::{Arena, Asking, CallReply};
 use std::alloc::Global;
 
 /// Tells the name of the mutator that is to be run, and for which reason.
@@ -146,7 +146,7 @@ pub(crate) fn del_drafted<M: Means + Sync>(asking: &mut Asking<M, Arena<M>>, key
 fn do_write<M: Means + Sync>(asking: &mut Asking<M, Arena<M>>, write: &Write) -> Result<(), Refusal>
     ensures done { OnOk result (asking.new ≡ record asking.old { map = wrote write.now asking.old.map }) }
     ensures left { OnErr result (asking.new ≡ asking.old) }
-    ensures err { IfErr result (IsMissedOrDry ⊤) }
+    ensures err { IfErr result (IsStoreOrMemory ⊤) }
 {
     match write {
         Write::Put(key, value) => asking.put(key.as_str(), value),
@@ -178,19 +178,19 @@ fn written(reply: Result<(), Refusal>) -> Outcome
     }
 }
 
-fn reply_outcome(reply: &Reply) -> Outcome
+fn reply_outcome(reply: &CallReply) -> Outcome
     ensures { told_alone result ≡ replied_told (reply_seen reply.now) }
 {
     match reply {
-        Reply::Id(id) => Outcome::Number(*id),
-        Reply::Ended(Ended::Applied) => Outcome::Done,
-        Reply::Ended(Ended::Same) => Outcome::Nothing,
+        CallReply::Id(id) => Outcome::Number(*id),
+        CallReply::Ended(Ended::Applied) => Outcome::Done,
+        CallReply::Ended(Ended::Same) => Outcome::Nothing,
         _ => Outcome::Done,
     }
 }
 
 /// What a change came to that asks for no run more.
-pub(crate) fn replied_outcome(reply: Result<Reply, Refusal>) -> Outcome
+pub(crate) fn replied_outcome(reply: Result<CallReply, Refusal>) -> Outcome
     ensures { told_alone result ≡ tells replied_told (map_ok reply_seen reply) }
 {
     match reply {

@@ -4,7 +4,7 @@ ghost use Rattle.client_desk.specs.Numbers.{fault_number};
 
 /// What a host got wrong. Nothing was done.
 #[derive(Clone, Copy, Debug, PartialEq, Eq)]
-pub enum Fault {
+pub enum CallFault {
     // by tools/refusals: variants of faults
     /// The bytes are not UTF-8.
     NotUtf8,
@@ -35,25 +35,25 @@ pub enum Fault {
     // tools/refusals: end
 }
 
-impl Fault {
+impl CallFault {
     pub(crate) fn number(self) -> i32
         ensures { result ≡ fault_number self }
     {
         match self {
             // by tools/refusals: numbers of faults
-            Fault::NotUtf8 => -101,
-            Fault::BadUuid => -102,
-            Fault::OutOfRange => -103,
-            Fault::NoTicket => -104,
-            Fault::NoWatch => -105,
-            Fault::BadRules => -106,
-            Fault::InUse => -107,
-            Fault::Asks => -108,
-            Fault::NoClient => -109,
-            Fault::NoPlace => -110,
-            Fault::NotAsked => -111,
-            Fault::Reads => -112,
-            Fault::NotRead => -113,
+            CallFault::NotUtf8 => -101,
+            CallFault::BadUuid => -102,
+            CallFault::OutOfRange => -103,
+            CallFault::NoTicket => -104,
+            CallFault::NoWatch => -105,
+            CallFault::BadRules => -106,
+            CallFault::InUse => -107,
+            CallFault::Asks => -108,
+            CallFault::NoClient => -109,
+            CallFault::NoPlace => -110,
+            CallFault::NotAsked => -111,
+            CallFault::Reads => -112,
+            CallFault::NotRead => -113,
             // tools/refusals: end
         }
     }

@@ -46,8 +46,8 @@ mod tickets;
 mod waiting;
 mod watches;
 
-pub use calls::{Call, Keep};
-pub use faults::Fault;
+pub use calls::{DeskCall, Keep};
+pub use faults::CallFault;
 pub use mutators::{HostRuns, Hosted, Whole};
 pub use outcomes::Outcome;
 pub use place::Place;

@@ -3,7 +3,7 @@ ghost use Rattle.std.specs.Prelude.{◌≡◌};
 ghost use Rattle.client_desk.specs.Numbers.{kind_number, outcome_code, outcome_number, outcome_value, refusal_code};
 ghost use Rattle.client_desk.specs.Told.{ended_told, id_told, tells, told_alone};
 
-use crate::faults::Fault;
+use crate::faults::CallFault;
 use group_history::{Ended, Refusal, VersionKind};
 
 /// What a call came to. What else it told is bytes.
@@ -20,7 +20,7 @@ pub enum Outcome {
     Asked,
     /// The client's call was refused.
     Refused(Refusal),
-    Faulty(Fault),
+    Faulty(CallFault),
 }
 
 impl Outcome {

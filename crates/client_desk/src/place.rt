@@ -2,10 +2,11 @@
 ghost use Rattle.std.specs.Prelude.{◌≡◌, ◌⊎◌, []};
 ghost use Rattle.std.specs.Arc.{arc_value};
 ghost use Rattle.commit_graph.specs.Seats.{IsSeatOf};
-ghost use Rattle.client_desk.specs.declared.calls.Call.TheVariants as kind;
-ghost use Rattle.client_desk.specs.declared.faults.Fault.TheVariants as fault;
-ghost use Rattle.client_desk.specs.Answers.{AnswersLooking, At, Begins, ByAny, ByClient, CountsFree, Forgets, Lacks};
-ghost use Rattle.client_desk.specs.Answers.{Leaves, PollsAs, Refreshes, Sits, Unwatches, Watches, made_room};
+ghost use Rattle.client_desk.specs.declared.calls.DeskCall.TheVariants as kind;
+ghost use Rattle.client_desk.specs.declared.faults.CallFault.TheVariants as fault;
+ghost use Rattle.client_desk.specs.Answers.{AnswersLooking, At, BeginsPull, ByAny, ByClient};
+ghost use Rattle.client_desk.specs.Answers.{CountsFree, Forgets, AnswersLack};
+ghost use Rattle.client_desk.specs.Answers.{Leaves, PollsAs, Refreshes, AnswersSit, Unwatches, Watches, made_room};
 ghost use Rattle.client_desk.specs.Calls.{MayLack};
 ghost use Rattle.client_desk.specs.Closing.{Closes};
 ghost use Rattle.client_desk.specs.Inside.Keeping.{telling_of};
@@ -14,8 +15,8 @@ ghost use Rattle.client_desk.specs.Kept.{kept_at};
 ghost use Rattle.client_desk.specs.Places.{free_place};
 ghost use Rattle.client_desk.specs.Told.{told, told_alone};
 
-use crate::calls::{Call, Keep};
-use crate::faults::Fault;
+use crate::calls::{DeskCall, Keep};
+use crate::faults::CallFault;
 use crate::kept::{give_up, make_room};
 use crate::mutators::Hosted;
 use crate::outcomes::{Outcome, id_outcome};
@@ -51,7 +52,7 @@ impl<M: Hosted> Model for Place<M> {
     ghost use Rattle.group_history.specs.contracts.changes.Change as the_change;
     ghost use Rattle.group_history.specs.contracts.mutations.Mutation as the_mutation;
     ghost use Rattle.head_word.specs.contracts.entry.Entry as entry;
-    ghost use Rattle.group_steps.specs.Rooting.{entries_coded};
+    ghost use Rattle.change_tries.specs.Rooting.{entries_coded};
     ghost use Rattle.commit_graph.specs.Seats.{IsSeatOf};
     ghost use Rattle.client_desk.specs.Inside.Keeping.{AreOf};
     ghost use Rattle.client_desk.specs.Places.{PlaceState};
@@ -151,13 +152,13 @@ impl<M: Hosted + Sync> Place<M> {
     }
 
     fn sit(&mut self, id: &Uuid) -> Outcome
-        ensures { Sits M.means id.now self.old (told_alone result) self.new }
+        ensures { AnswersSit M.means id.now self.old (told_alone result) self.new }
     {
         let seat = match self.take() {
             Sitting::Nobody(seat) => seat,
             other => {
                 self.put(other);
-                return Outcome::Faulty(Fault::InUse);
+                return Outcome::Faulty(CallFault::InUse);
             }
         };
         match self.group.client(seat, *id, TRIES) {
@@ -198,7 +199,7 @@ impl<M: Hosted + Sync> Place<M> {
             }
             other => {
                 self.put(other);
-                return Outcome::Faulty(Fault::NoClient);
+                return Outcome::Faulty(CallFault::NoClient);
             }
         }
     }
@@ -225,8 +226,8 @@ impl<M: Hosted + Sync> Place<M> {
     // The ticket of the pull is kept, and its request is told.
     fn begin(&mut self, keep: Keep, bytes: &mut Vec<u8>) -> Outcome
         requires { bytes.old.items ≡ [] }
-        ensures { Lacks (made_room (kind.Begin keep) self.old) (told result bytes.new.items) self.new
-            ⊎ ByClient (λ c b. Begins keep M.means c (made_room (kind.Begin keep) b)) self.old
+        ensures { AnswersLack (made_room (kind.Begin keep) self.old) (told result bytes.new.items) self.new
+            ⊎ ByClient (λ c b. BeginsPull keep M.means c (made_room (kind.Begin keep) b)) self.old
             (told result bytes.new.items) self.new }
     {
         let Sitting::Client(client) = &mut self.sitting else {
@@ -242,13 +243,13 @@ impl<M: Hosted + Sync> Place<M> {
             (told_alone result) self.new }
     {
         if !give_up(&mut self.tickets, number) {
-            return Outcome::Faulty(Fault::NoTicket);
+            return Outcome::Faulty(CallFault::NoTicket);
         }
         Outcome::Done
     }
 
     fn watch(&mut self, keep: Keep, scan: &Scan) -> Outcome
-        ensures { Lacks (made_room (kind.Watch keep scan.entry) self.old) (told_alone result) self.new
+        ensures { AnswersLack (made_room (kind.Watch keep scan.entry) self.old) (told_alone result) self.new
             ⊎ ByClient (λ c b. Watches keep scan.now c (made_room (kind.Watch keep scan.entry) b)) self.old
             (told_alone result) self.new }
     {
@@ -267,7 +268,7 @@ impl<M: Hosted + Sync> Place<M> {
 
     fn poll(&mut self, number: usize, tells: Tells, bytes: &mut Vec<u8>) -> Outcome
         requires { bytes.old.items ≡ [] }
-        ensures { Lacks self.old (told result bytes.new.items) self.new
+        ensures { AnswersLack self.old (told result bytes.new.items) self.new
             ⊎ ByClient (λ c b. At (kept_at b.watches number) fault.NoWatch
             (λ watch. PollsAs (telling_of tells) M.means c number watch) b)
             self.old (told result bytes.new.items) self.new }
@@ -276,14 +277,14 @@ impl<M: Hosted + Sync> Place<M> {
             return Outcome::Faulty(self.sitting.absent());
         };
         if number >= self.watches.len() {
-            return Outcome::Faulty(Fault::NoWatch);
+            return Outcome::Faulty(CallFault::NoWatch);
         }
         match &mut self.watches[number] {
             Some(watch) => {
                 return poll_watch(client, watch, tells, bytes);
             }
             None => {
-                return Outcome::Faulty(Fault::NoWatch);
+                return Outcome::Faulty(CallFault::NoWatch);
             }
         }
     }
@@ -293,30 +294,31 @@ impl<M: Hosted + Sync> Place<M> {
             (told_alone result) self.new }
     {
         if !give_up(&mut self.watches, number) {
-            return Outcome::Faulty(Fault::NoWatch);
+            return Outcome::Faulty(CallFault::NoWatch);
         }
         Outcome::Done
     }
 
     // Makes a call that is no change, where none asks for a run.
-    pub(crate) fn call_calm(&mut self, call: Call<'_>, bytes: &mut Vec<u8>) -> Outcome
+    pub(crate) fn call_calm(&mut self, call: DeskCall<'_>, bytes: &mut Vec<u8>) -> Outcome
         requires { bytes.old.items ≡ [] }
-        ensures { (MayLack call.entry × Lacks (made_room call.entry self.old) (told result bytes.new.items) self.new)
+        ensures { (MayLack call.entry
+            × AnswersLack (made_room call.entry self.old) (told result bytes.new.items) self.new)
             ⊎ AnswersLooking M.means call.entry self.old (told result bytes.new.items) self.new }
     {
         match call {
-            Call::Sit(id) => self.sit(id),
-            Call::Leave => self.leave(),
-            Call::BeginRead => self.begin_read(),
-            Call::EndRead => self.end_read(),
-            Call::Slots => self.slots(bytes),
-            Call::Refresh => self.refresh(),
-            Call::Begin(keep) => self.begin(keep, bytes),
-            Call::Forget(number) => self.forget(number),
-            Call::Watch(keep, scan) => self.watch(keep, scan),
-            Call::Poll(number) => self.poll(number, Tells::Rows, bytes),
-            Call::PollChanges(number) => self.poll(number, Tells::Changes, bytes),
-            Call::Unwatch(number) => self.unwatch(number),
+            DeskCall::Sit(id) => self.sit(id),
+            DeskCall::Leave => self.leave(),
+            DeskCall::BeginRead => self.begin_read(),
+            DeskCall::EndRead => self.end_read(),
+            DeskCall::Slots => self.slots(bytes),
+            DeskCall::Refresh => self.refresh(),
+            DeskCall::Begin(keep) => self.begin(keep, bytes),
+            DeskCall::Forget(number) => self.forget(number),
+            DeskCall::Watch(keep, scan) => self.watch(keep, scan),
+            DeskCall::Poll(number) => self.poll(number, Tells::Rows, bytes),
+            DeskCall::PollChanges(number) => self.poll(number, Tells::Changes, bytes),
+            DeskCall::Unwatch(number) => self.unwatch(number),
             other => self.call_reading(other, bytes),
         }
     }

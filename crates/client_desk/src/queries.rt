@@ -1,13 +1,13 @@
 //! The queries of a place: by the client that sits there, or by the reading that it has open.
 ghost use Rattle.std.specs.Prelude.{◌≡◌, ◌⊎◌, [], drop, true};
 ghost use Rattle.push_body.specs.Bodies.{push_text};
-ghost use Rattle.client_desk.specs.Answers.{AnswersReading, Asks, Lacks, TellsMomentAs, made_room};
+ghost use Rattle.client_desk.specs.Answers.{AnswersReading, AnswersQuery, AnswersLack, TellsMomentAs, made_room};
 ghost use Rattle.client_desk.specs.Calls.{MayLack};
 ghost use Rattle.client_desk.specs.Inside.Reading.{is_query};
 ghost use Rattle.client_desk.specs.Told.{bytes_told, told, told_alone};
 
-use crate::calls::Call;
-use crate::faults::Fault;
+use crate::calls::DeskCall;
+use crate::faults::CallFault;
 use crate::mutators::Hosted;
 use crate::outcomes::Outcome;
 use crate::place::Place;
@@ -16,7 +16,7 @@ use crate::sitting::Sitting;
 
 impl<M: Hosted + Sync> Place<M> {
     // Makes a query that one commit answers.
-    fn ask(&mut self, call: Call<'_>, bytes: &mut Vec<u8>) -> Outcome
+    fn ask(&mut self, call: DeskCall<'_>, bytes: &mut Vec<u8>) -> Outcome
         requires query { is_query call ≡ true }
         requires empty { bytes.old.items ≡ [] }
         ensures { AnswersReading M.means call.entry self.old (told result bytes.new.items) self.new }
@@ -36,7 +36,7 @@ impl<M: Hosted + Sync> Place<M> {
 
     fn push(&mut self, skip: usize, bytes: &mut Vec<u8>) -> Outcome
         requires { bytes.old.items ≡ [] }
-        ensures { Asks bytes_told (λ c s. push_text c.group.identity (drop skip s.pending)) M.means self.old
+        ensures { AnswersQuery bytes_told (λ c s. push_text c.group.identity (drop skip s.pending)) M.means self.old
             (told result bytes.new.items) self.new }
     {
         match &mut self.sitting {
@@ -69,24 +69,25 @@ impl<M: Hosted + Sync> Place<M> {
     }
 
     // Makes a query, where no change asks for a run.
-    pub(crate) fn call_reading(&mut self, call: Call<'_>, bytes: &mut Vec<u8>) -> Outcome
+    pub(crate) fn call_reading(&mut self, call: DeskCall<'_>, bytes: &mut Vec<u8>) -> Outcome
         requires { bytes.old.items ≡ [] }
-        ensures { (MayLack call.entry × Lacks (made_room call.entry self.old) (told result bytes.new.items) self.new)
+        ensures { (MayLack call.entry
+            × AnswersLack (made_room call.entry self.old) (told result bytes.new.items) self.new)
             ⊎ AnswersReading M.means call.entry self.old (told result bytes.new.items) self.new }
     {
         match call {
-            Call::Get(_) => self.ask(call, bytes),
-            Call::Has(_) => self.ask(call, bytes),
-            Call::Scan(_) => self.ask(call, bytes),
-            Call::PulledGet(_) => self.ask(call, bytes),
-            Call::PulledScan(_) => self.ask(call, bytes),
-            Call::Empty => self.ask(call, bytes),
-            Call::Pending => self.ask(call, bytes),
-            Call::Cookie => self.ask(call, bytes),
-            Call::Closed => self.ask(call, bytes),
-            Call::Push(skip) => self.push(skip, bytes),
-            Call::Moment => self.moment(),
-            _ => Outcome::Faulty(Fault::NotAsked),
+            DeskCall::Get(_) => self.ask(call, bytes),
+            DeskCall::Has(_) => self.ask(call, bytes),
+            DeskCall::Scan(_) => self.ask(call, bytes),
+            DeskCall::PulledGet(_) => self.ask(call, bytes),
+            DeskCall::PulledScan(_) => self.ask(call, bytes),
+            DeskCall::Empty => self.ask(call, bytes),
+            DeskCall::Pending => self.ask(call, bytes),
+            DeskCall::Cookie => self.ask(call, bytes),
+            DeskCall::Closed => self.ask(call, bytes),
+            DeskCall::Push(skip) => self.push(skip, bytes),
+            DeskCall::Moment => self.moment(),
+            _ => Outcome::Faulty(CallFault::NotAsked),
         }
     }
 }

@@ -4,11 +4,11 @@ ghost use Rattle.std.specs.FinMap as finite;
 ghost use Rattle.group_history.specs.Record.{after};
 ghost use Rattle.group_history.specs.Scans.{rows_of};
 ghost use Rattle.group_history.specs.Spelling.{version_of};
-ghost use Rattle.answered.specs.Answered.{IsLinearized, IsPoint, no_change};
-ghost use Rattle.group_steps.specs.Missing.{IsMissedOrDry, map_ok};
+ghost use Rattle.linearized.specs.Answered.{IsLinearized, IsPoint, no_change};
+ghost use Rattle.change_tries.specs.Missing.{IsStoreOrMemory, map_ok};
 ghost use Rattle.head_word.specs.Books.{record_of};
 ghost use Rattle.push_body.specs.Rows.{array_text, row_text};
-ghost use Rattle.rebase.specs.Clients.{Stays};
+ghost use Rattle.rebase.specs.Clients.{AfterQuery};
 ghost use Rattle.rebase.specs.Readers.{lent, read_by, seen_by};
 ghost use Rattle.client_desk.specs.Answers.{CountsBy, moment_by, read_by as known_by};
 ghost use Rattle.client_desk.specs.Told.{cookie_told, dry, pending_told, rows_told, tells, told};
@@ -17,7 +17,7 @@ ghost use Rattle.client_desk.specs.Inside.Reading.{PushedBy, PushedKept, ToldBy,
 ghost use Rattle.client_desk.specs.Inside.Reading.{query_told};
 ghost use Rattle.client_desk.specs.declared.outcomes.Outcome.TheVariants.{Done};
 
-use crate::calls::Call;
+use crate::calls::DeskCall;
 use crate::outcomes::Outcome;
 use crate::place::TRIES;
 use crate::printing::{print_pending, print_slots};
@@ -49,7 +49,7 @@ pub(crate) fn rows_in<'a, M: Means + Sync>(
     requires { bytes.items ≡ [] }
     ensures rows { IfOk result (λ text. text.items
         ≡ array_text (map row_text (rows_of scan.now tx.old.version.read))) }
-    ensures refused { IfErr result (IsMissedOrDry ⊤) }
+    ensures refused { IfErr result (IsStoreOrMemory ⊤) }
 {
     let mut list = RowList::new(bytes);
     if let Err(stop) = tx.scan_into(scan, &mut list) {
@@ -96,7 +96,7 @@ fn tell_rows<'a, M: Means + Sync>(
     requires { bytes.old.items ≡ [] }
     ensures told { IfOk result (λ outcome. told outcome bytes.new.items
         ≡ rows_told (rows_of scan.now tx.old.version.read)) }
-    ensures refused { IfErr result (IsMissedOrDry ⊤) }
+    ensures refused { IfErr result (IsStoreOrMemory ⊤) }
 {
     *bytes = rows_in(tx, scan, replace(bytes, Vec::new(alloc)))?;
     Ok(Outcome::Done)
@@ -106,20 +106,20 @@ fn tell_rows<'a, M: Means + Sync>(
 fn tell_pulled<'a, M: Means + Sync>(
     alloc: Global,
     tx: CommitTx<StoreNodes<'a, M, Arena<M>>>,
-    call: Call<'_>,
+    call: DeskCall<'_>,
     bytes: &mut Vec<u8>,
 ) -> Result<Outcome, Refusal>
     requires query { is_pulled call ≡ true }
     requires empty { bytes.old.items ≡ [] }
     ensures told { IfOk result (λ outcome. told outcome bytes.new.items ≡ query_told tx.entry.version call.entry) }
-    ensures refused { IfErr result (IsMissedOrDry ⊤) }
+    ensures refused { IfErr result (IsStoreOrMemory ⊤) }
 {
     let mut pulled = tx.pulled()?;
     match call {
-        Call::PulledGet(key) => {
+        DeskCall::PulledGet(key) => {
             return Ok(tell_value(pulled.get(key)?, bytes)?);
         }
-        Call::PulledScan(scan) => {
+        DeskCall::PulledScan(scan) => {
             return tell_rows(alloc, &mut pulled, scan, bytes);
         }
         _ => unreachable!(),
@@ -130,35 +130,35 @@ fn tell_pulled<'a, M: Means + Sync>(
 fn tell_query<'a, M: Means + Sync>(
     alloc: Global,
     tx: CommitTx<StoreNodes<'a, M, Arena<M>>>,
-    call: Call<'_>,
+    call: DeskCall<'_>,
     bytes: &mut Vec<u8>,
 ) -> Result<Outcome, Refusal>
     requires query { is_query call ≡ true }
     requires empty { bytes.old.items ≡ [] }
     ensures told { IfOk result (λ outcome. told outcome bytes.new.items ≡ query_told tx.entry.version call.entry) }
-    ensures refused { IfErr result (IsMissedOrDry ⊤) }
+    ensures refused { IfErr result (IsStoreOrMemory ⊤) }
 {
     let mut tx = tx;
     match call {
-        Call::Get(key) => {
+        DeskCall::Get(key) => {
             return Ok(tell_value(tx.get(key)?, bytes)?);
         }
-        Call::Has(key) => {
+        DeskCall::Has(key) => {
             return Ok(Outcome::Is(tx.has(key)?));
         }
-        Call::Scan(scan) => {
+        DeskCall::Scan(scan) => {
             return tell_rows(alloc, &mut tx, scan, bytes);
         }
-        Call::Empty => {
+        DeskCall::Empty => {
             return Ok(Outcome::Is(tx.is_empty()?));
         }
-        Call::Pending => {
+        DeskCall::Pending => {
             return Ok(tell_pending(&tx.pending()?, bytes)?);
         }
-        Call::Cookie => {
+        DeskCall::Cookie => {
             return Ok(tell_cookie(&tx.cookie()?, bytes)?);
         }
-        Call::Closed => {
+        DeskCall::Closed => {
             return Ok(Outcome::Is(tx.closed()?));
         }
         other => {
@@ -171,14 +171,14 @@ fn tell_query<'a, M: Means + Sync>(
 fn ask_reader<M: Means + Sync>(
     alloc: Global,
     tx: &ReadTx<'_, M, Arena<M>>,
-    call: Call<'_>,
+    call: DeskCall<'_>,
     bytes: &mut Vec<u8>,
 ) -> Result<Outcome, Refusal>
     requires query { is_query call ≡ true }
     requires empty { bytes.old.items ≡ [] }
     ensures told { IfOk result (λ outcome. told outcome bytes.new.items
         ≡ query_told (version_of M.means (read_by tx.now)) call.entry) }
-    ensures refused { IfErr result (IsMissedOrDry ⊤) }
+    ensures refused { IfErr result (IsStoreOrMemory ⊤) }
 {
     tell_query(alloc, tx.commit()?, call, bytes)
 }
@@ -187,7 +187,7 @@ fn ask_reader<M: Means + Sync>(
 fn ask_client<M: Means + Sync>(
     alloc: Global,
     client: &mut Client<M, Arena<M>>,
-    call: Call<'_>,
+    call: DeskCall<'_>,
     moment: &mut u64,
     bytes: &mut Vec<u8>,
 ) -> Result<Outcome, Refusal>
@@ -200,9 +200,9 @@ fn ask_client<M: Means + Sync>(
         client.new.seat.mark.log) }
     ensures now { IfOk result (λ outcome. told outcome bytes.new.items
         ≡ query_told (version_of M.means (after (record_of client.new.seat.mark.log))) call.entry) }
-    ensures refused { IfErr result (IsMissedOrDry ⊤) }
+    ensures refused { IfErr result (IsStoreOrMemory ⊤) }
     ensures moment { moment.new ≡ moment_by result client.new moment.old }
-    ensures stays { Stays ⊤ client.old client.new }
+    ensures stays { AfterQuery ⊤ client.old client.new }
 {
     let tx = client.read(TRIES)?;
     let reply = ask_reader(alloc, &tx, call, bytes);
@@ -231,7 +231,7 @@ fn read_outcome(reply: Result<Outcome, Refusal>, bytes: &mut Vec<u8>) -> Outcome
 pub(crate) fn tell_by_client<M: Means + Sync>(
     alloc: Global,
     client: &mut Client<M, Arena<M>>,
-    call: Call<'_>,
+    call: DeskCall<'_>,
     moment: &mut u64,
     bytes: &mut Vec<u8>,
 ) -> Outcome
@@ -248,7 +248,7 @@ pub(crate) fn tell_by_client<M: Means + Sync>(
 fn ask_reading<M: Means + Sync>(
     alloc: Global,
     reader: &Reader<M, Arena<M>>,
-    call: Call<'_>,
+    call: DeskCall<'_>,
     moment: &mut u64,
     bytes: &mut Vec<u8>,
 ) -> Result<Outcome, Refusal>
@@ -256,7 +256,7 @@ fn ask_reading<M: Means + Sync>(
     requires empty { bytes.old.items ≡ [] }
     ensures told { IfOk result (λ outcome. told outcome bytes.new.items
         ≡ query_told (version_of M.means (known_by reader.now)) call.entry) }
-    ensures refused { IfErr result (IsMissedOrDry ⊤) }
+    ensures refused { IfErr result (IsStoreOrMemory ⊤) }
     ensures moment { moment.new ≡ moment_by result reader.now moment.old }
 {
     let reply = tell_query(alloc, reader.tx(), call, bytes);
@@ -270,7 +270,7 @@ fn ask_reading<M: Means + Sync>(
 pub(crate) fn tell_by_reading<M: Means + Sync>(
     alloc: Global,
     reader: &Reader<M, Arena<M>>,
-    call: Call<'_>,
+    call: DeskCall<'_>,
     moment: &mut u64,
     bytes: &mut Vec<u8>,
 ) -> Outcome

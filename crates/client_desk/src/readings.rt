@@ -3,7 +3,7 @@ ghost use Rattle.std.specs.Prelude.{◌≡◌};
 ghost use Rattle.client_desk.specs.Answers.{ByClient, ByReader, EndsReading, MayBeginReading};
 ghost use Rattle.client_desk.specs.Told.{told_alone};
 
-use crate::faults::Fault;
+use crate::faults::CallFault;
 use crate::mutators::Hosted;
 use crate::outcomes::Outcome;
 use crate::place::{Place, TRIES};
@@ -43,7 +43,7 @@ impl<M: Hosted + Sync> Place<M> {
             }
             other => {
                 self.put(other);
-                return Outcome::Faulty(Fault::NotRead);
+                return Outcome::Faulty(CallFault::NotRead);
             }
         }
     }

@@ -5,7 +5,7 @@ ghost use Rattle.client_desk.specs.Closing.{IsBack};
 ghost use Rattle.client_desk.specs.Drafts.{HasLeftAsked};
 ghost use Rattle.client_desk.specs.Sitting.{asking_of, client_of, reading_of, seat_of};
 
-use crate::faults::Fault;
+use crate::faults::CallFault;
 use crate::mutators::Hosted;
 use rebase::{Arena, Asking, Client, Reader, Seat};
 
@@ -22,12 +22,12 @@ pub(crate) enum Sitting<M: Hosted> {
 
 impl<M: Hosted> Sitting<M> {
     // Why no client can be called.
-    pub(crate) fn absent(&self) -> Fault
+    pub(crate) fn absent(&self) -> CallFault
         ensures { result ≡ absent (reading_of self.now) }
     {
         match self {
-            Sitting::Reading(_) => Fault::Reads,
-            _ => Fault::NoClient,
+            Sitting::Reading(_) => CallFault::Reads,
+            _ => CallFault::NoClient,
         }
     }
 

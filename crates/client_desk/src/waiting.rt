@@ -1,14 +1,14 @@
 //! Changes that wait for others, at a place of a group that has all mutators.
 ghost use Rattle.std.specs.Prelude.{◌≡◌, [], None};
 ghost use Rattle.rebase.specs.declared.calls.Call.TheVariants as changing;
-ghost use Rattle.client_desk.specs.declared.faults.Fault.TheVariants as fault;
+ghost use Rattle.client_desk.specs.declared.faults.CallFault.TheVariants as fault;
 ghost use Rattle.client_desk.specs.Answers.{At, ByClient};
 ghost use Rattle.client_desk.specs.Kept.{kept_at};
 ghost use Rattle.client_desk.specs.Told.{told, told_alone};
 ghost use Rattle.client_desk.specs.Waiting.{IsEndOf, MayAnswerWaiting, Waits};
 
-use crate::calls::Call;
-use crate::faults::Fault;
+use crate::calls::DeskCall;
+use crate::faults::CallFault;
 use crate::kept::kept_at;
 use crate::mutators::Whole;
 use crate::outcomes::{Outcome, ended_outcome, id_outcome};
@@ -41,7 +41,7 @@ impl<M: Mutators + Drop> Place<Whole<M>> {
                 return ended_outcome(client.end_pull(rt, ticket, body));
             }
             None => {
-                return Outcome::Faulty(Fault::NoTicket);
+                return Outcome::Faulty(CallFault::NoTicket);
             }
         }
     }
@@ -53,20 +53,25 @@ impl<M: Mutators + Drop> Place<Whole<M>> {
         let _sitting = &self.sitting;
     }
 
-    fn tell_waiting<R: Wait>(&mut self, rt: &R, call: Call<'_>, bytes: &mut Vec<u8>) -> Outcome
+    fn tell_waiting<R: Wait>(&mut self, rt: &R, call: DeskCall<'_>, bytes: &mut Vec<u8>) -> Outcome
         requires { bytes.old.items ≡ [] }
         ensures { MayAnswerWaiting M.means call.entry self.old (told result bytes.new.items) self.new }
     {
         match call {
-            Call::Mutate(asked) => self.mutate_waiting(rt, asked),
-            Call::End(number, body) => self.end_waiting(rt, number, body),
+            DeskCall::Mutate(asked) => self.mutate_waiting(rt, asked),
+            DeskCall::End(number, body) => self.end_waiting(rt, number, body),
             other => self.call(other, bytes),
         }
     }
 
     /// Makes a call, of which a change waits for others. What it tells as bytes is written, none where it was refused.
     /// The place stays at its group.
-    pub fn call_waiting<R: Wait>(&mut self, rt: &R, call: Call<'_>, bytes: &mut Vec<u8>) -> Outcome
+    pub fn call_waiting<R: Wait>(
+        &mut self,
+        rt: &R,
+        call: DeskCall<'_>,
+        bytes: &mut Vec<u8>,
+    ) -> Outcome
         requires { bytes.old.items ≡ [] }
         ensures told { MayAnswerWaiting M.means call.entry self.old (told result bytes.new.items) self.new }
         ensures group { self.new.group ≡ self.old.group }

@@ -1,7 +1,7 @@
 //! Watches that are polled.
 ghost use Rattle.std.specs.Prelude.{◌≡◌, ◌⊎◌, ⊤, T, [], IfErr, IfOk, OnOk, unwrap_or};
 ghost use Rattle.group_history.specs.Rows.{Rows, keys_of, rises};
-ghost use Rattle.rebase.specs.Clients.{Stays};
+ghost use Rattle.rebase.specs.Clients.{AfterQuery};
 ghost use Rattle.rebase.specs.Watching.{watch_after};
 ghost use Rattle.rebase.specs.declared.watching.Polled.TheVariants as polled;
 ghost use Rattle.client_desk.specs.Answers.{TellsChanges};
@@ -111,7 +111,7 @@ fn poll_copy<M: Means + Sync>(
     requires empty { bytes.old.items ≡ [] }
     ensures polled { IsPolled (telling_of tells) M.means client.old client.new watch.old watch.new
         (told result bytes.new.items) }
-    ensures looked { Stays ⊤ client.old client.new }
+    ensures looked { AfterQuery ⊤ client.old client.new }
 {
     let mut copy = copy;
     let reply = client.poll(&mut copy, TRIES);
@@ -138,7 +138,7 @@ pub(crate) fn poll_watch<M: Means + Sync>(
     requires empty { bytes.old.items ≡ [] }
     ensures polled { IsPolled (telling_of tells) M.means client.old client.new watch.old watch.new
         (told result bytes.new.items) }
-    ensures looked { Stays ⊤ client.old client.new
+    ensures looked { AfterQuery ⊤ client.old client.new
         ⊎ ((client.new ≡ client.old) × (told result bytes.new.items ≡ dry) × (watch.new ≡ watch.old)) }
 {
     match watch.clone() {

@@ -7,30 +7,31 @@ use Rattle.std.specs.declared.cmp.Ordering.{Ordering}
 use Rattle.std.specs.declared.cmp.Ordering.TheVariants.{Less, Equal, Greater}
 use Rattle.std.proofs.lemmas.List.Elements.{Contains-append_cases, Contains-append_left, Contains-append_right}
 use Rattle.std.proofs.lemmas.Map.Lookups.{exact_unsigned}
-use Rattle.commit_graph.specs.declared.founds.Found.{Found}
+use Rattle.commit_graph.specs.declared.founds.NamedNode.{NamedNode}
 use Rattle.commit_graph.specs.Inside.Reach.{stamp_in, AreKeyed, HasStamp, Joins, Walked, Adds}
 use Rattle.group_history.proofs.Lists.{only_one, cons_cases, no_element, one_here, first_here, later_here, map_to}
 
-keyed_first : (e : ℕ × Found) (es : List (ℕ × Found)) → AreKeyed (e ∷ es) → e.0 ≡ stamp_in e.1
+keyed_first : (e : ℕ × NamedNode) (es : List (ℕ × NamedNode)) → AreKeyed (e ∷ es) → e.0 ≡ stamp_in e.1
 keyed_first e es h = let p : e.0 ≡ stamp_in e.1 = cc h in p
 
-keyed_rest : (e : ℕ × Found) (es : List (ℕ × Found)) → AreKeyed (e ∷ es) → AreKeyed es
-keyed_rest e es h = let p : map (λ (e : ℕ × Found). e.0) es ≡ map (λ (e : ℕ × Found). stamp_in e.1) es = cc h in p
+keyed_rest : (e : ℕ × NamedNode) (es : List (ℕ × NamedNode)) → AreKeyed (e ∷ es) → AreKeyed es
+keyed_rest e es h = let p : map (λ (e : ℕ × NamedNode). e.0) es ≡ map (λ (e : ℕ × NamedNode). stamp_in e.1) es =
+    cc h in p
 
-stamps_twice : (es : List (ℕ × Found)) → map (λ (e : ℕ × Found). stamp_in e.1) es
-    ≡ map stamp_in (map (λ (e : ℕ × Found). e.1) es)
+stamps_twice : (es : List (ℕ × NamedNode)) → map (λ (e : ℕ × NamedNode). stamp_in e.1) es
+    ≡ map stamp_in (map (λ (e : ℕ × NamedNode). e.1) es)
 stamps_twice [] = refl
 stamps_twice (e ∷ es) = ap (λ w. stamp_in e.1 ∷ w) (stamps_twice es)
 
-pub inserted : (es : List (ℕ × Found)) (f : Found) → AreKeyed es
-    → Joins (map (λ (e : ℕ × Found). e.1) es) (f ∷ [])
-    (map (λ (e : ℕ × Found). e.1) (insert_entry nat_cmp es (stamp_in f) f))
+pub inserted : (es : List (ℕ × NamedNode)) (f : NamedNode) → AreKeyed es
+    → Joins (map (λ (e : ℕ × NamedNode). e.1) es) (f ∷ [])
+    (map (λ (e : ℕ × NamedNode). e.1) (insert_entry nat_cmp es (stamp_in f) f))
 inserted [] f keyed = record { from = λ g h. inr h; kept = λ g h. absurd (no_element g h); added = λ g h. (g, h, refl) }
 inserted (e ∷ es) f keyed =
-    let vs : List Found = map (λ (e : ℕ × Found). e.1) es in
+    let vs : List NamedNode = map (λ (e : ℕ × NamedNode). e.1) es in
     let k : ℕ = stamp_in f in
     let P : Ordering → Type 0 = λ r. nat_cmp k e.0 ≡ r
-    → Joins (e.1 ∷ vs) (f ∷ []) (map (λ (e : ℕ × Found). e.1)
+    → Joins (e.1 ∷ vs) (f ∷ []) (map (λ (e : ℕ × NamedNode). e.1)
     (match_ordering r ((k, f) ∷ e ∷ es) ((e.0, f) ∷ es) (e ∷ insert_entry nat_cmp es k f))) in
     let all : (r : Ordering) → P r = λ r. elim r as P [
       | Less ↦ λ i. record {
@@ -49,7 +50,7 @@ inserted (e ∷ es) f keyed =
         added = λ g h. (f, first_here f vs, ap stamp_in (only_one f g h));
       }
       | Greater ↦ λ i. (let r = inserted es f (keyed_rest e es keyed) in
-          let ws : List Found = map (λ (e : ℕ × Found). e.1) (insert_entry nat_cmp es k f) in record {
+          let ws : List NamedNode = map (λ (e : ℕ × NamedNode). e.1) (insert_entry nat_cmp es k f) in record {
             from = λ g h. elim (cons_cases e.1 ws g h) [
               | inl p ↦ inl (subst (λ w. Contains (e.1 ∷ vs) w) p (first_here e.1 vs))
               | inr q ↦ elim (r.from g q) [ inl j ↦ inl (later_here e.1 vs g j) | inr j ↦ inr j ]
@@ -65,7 +66,7 @@ inserted (e ∷ es) f keyed =
 cons_both : {x y : ℕ} {xs ys : List ℕ} → x ≡ y → xs ≡ ys → x ∷ xs ≡ y ∷ ys
 cons_both p q = cc (p, q)
 
-pub keyed_inserted : (es : List (ℕ × Found)) (f : Found) → AreKeyed es
+pub keyed_inserted : (es : List (ℕ × NamedNode)) (f : NamedNode) → AreKeyed es
     → AreKeyed (insert_entry nat_cmp es (stamp_in f) f)
 keyed_inserted [] f keyed = refl
 keyed_inserted (e ∷ es) f keyed =
@@ -79,21 +80,23 @@ keyed_inserted (e ∷ es) f keyed =
     ] in all (nat_cmp k e.0) refl
 
 -- each entry stands under its value's stamp
-pub keyed_at : (es : List (ℕ × Found)) (f : Found) → AreKeyed es → Contains (map (λ (e : ℕ × Found). e.1) es) f
-    → Contains (map (λ (e : ℕ × Found). e.0) es) (stamp_in f)
+pub keyed_at : (es : List (ℕ × NamedNode)) (f : NamedNode) → AreKeyed es
+    → Contains (map (λ (e : ℕ × NamedNode). e.1) es) f
+    → Contains (map (λ (e : ℕ × NamedNode). e.0) es) (stamp_in f)
 keyed_at es f keyed h =
     let at : List ℕ → Type 0 = λ ks. Contains ks (stamp_in f) in
-    let both : map (λ (e : ℕ × Found). stamp_in e.1) es
-    ≡ map stamp_in (map (λ (e : ℕ × Found). e.1) es) = stamps_twice es in
-    subst at (sym (keyed ∙ both)) (map_to stamp_in (map (λ (e : ℕ × Found). e.1) es) f h)
+    let both : map (λ (e : ℕ × NamedNode). stamp_in e.1) es
+    ≡ map stamp_in (map (λ (e : ℕ × NamedNode). e.1) es) = stamps_twice es in
+    subst at (sym (keyed ∙ both)) (map_to stamp_in (map (λ (e : ℕ × NamedNode). e.1) es) f h)
 
-pub keyed_last : (es : List (ℕ × Found)) (e : ℕ × Found) → AreKeyed (es ++ e ∷ []) → AreKeyed es × (e.0 ≡ stamp_in e.1)
+pub keyed_last : (es : List (ℕ × NamedNode)) (e : ℕ × NamedNode) → AreKeyed (es ++ e ∷ [])
+    → AreKeyed es × (e.0 ≡ stamp_in e.1)
 keyed_last [] e keyed = (refl, keyed_first e [] keyed)
 keyed_last (d ∷ es) e keyed = let r = keyed_last es e (keyed_rest d (es ++ e ∷ []) keyed) in
     (cons_both (keyed_first d (es ++ e ∷ []) keyed) r.0, r.1)
 
 -- what isn't is added and noted
-pub adds_one : (a b : Walked) (f : Found) → Joins a.ahead (f ∷ []) b.ahead
+pub adds_one : (a b : Walked) (f : NamedNode) → Joins a.ahead (f ∷ []) b.ahead
     → ((x : ℕ) → Contains b.met x → (x ≡ stamp_in f) ⊎ Contains a.met x) → Adds a (f ∷ []) b
 adds_one a b f joins noted =
     let own = joins.added f (one_here f) in
@@ -104,7 +107,7 @@ adds_one a b f joins noted =
       met = λ x h. elim (noted x h) [ inl e ↦ inl (own.0, own.1, own.2 ∙ sym e) | inr k ↦ inr k ];
     }
 
-pub adds_more : (a b d : Walked) (xs ys : List Found) → Adds a xs b → Adds b ys d → Adds a (xs ++ ys) d
+pub adds_more : (a b d : Walked) (xs ys : List NamedNode) → Adds a xs b → Adds b ys d → Adds a (xs ++ ys) d
 adds_more a b d xs ys p q =
     let on : (x : ℕ) → HasStamp b.ahead x
     → HasStamp d.ahead x = λ x h. (let r = q.kept h.0 h.1 in (r.0, r.1, r.2 ∙ h.2)) in

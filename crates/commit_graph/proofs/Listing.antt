@@ -13,10 +13,11 @@ use Rattle.group_history.specs.Spelling.{Contents, Version, version_at, map_at}
 use Rattle.group_history.proofs.Lists.{prefix_trans, only_one, cons_cases, no_element, one_here, first_here, later_here}
 use Rattle.group_history.proofs.Lists.{map_from, map_to}
 use Rattle.map_chunks.specs.Places.{AreAll}
-use Rattle.commit_graph.specs.declared.founds.Found.{Found}
-use Rattle.commit_graph.specs.declared.founds.Found.TheVariants as found
+use Rattle.commit_graph.specs.declared.founds.NamedNode.{NamedNode}
+use Rattle.commit_graph.specs.declared.founds.NamedNode.TheVariants as found
 use Rattle.commit_graph.specs.Reach.{Reaches, itself, through, Falls, stamps_of}
-use Rattle.commit_graph.specs.Inside.Reach.{AreFound, ref_in, stamp_in, found_in, IsSpelled, HasStamp, Notes, Walked, Adds}
+use Rattle.commit_graph.specs.Inside.Reach.{AreFound, ref_in, stamp_in, found_in, IsSpelled, HasStamp}
+use Rattle.commit_graph.specs.Inside.Reach.{Notes, Walked, Adds}
 use Rattle.std.specs.Prelude.{IsSome}
 use Rattle.commit_graph.proofs.Descending.{map_ordered}
 use Rattle.commit_graph.proofs.Rooted.{map_some_stays, kept_grown}
@@ -26,7 +27,7 @@ use Rattle.commit_graph.proofs.Reached.{IsThere, there_segment, child_there, the
 use Rattle.commit_graph.proofs.Reached.{found_stamps, found_refs, reaches_stays, reaches_child, closed}
 
 -- listed already, or still ahead, or kept by the root
-abbrev pub Has : Contents → ℕ → List Ref → List Found → ℕ → Type 0
+abbrev pub Has : Contents → ℕ → List Ref → List NamedNode → ℕ → Type 0
 Has ns root out frontier x = (Contains (stamps_of out) x ⊎ HasStamp frontier x) ⊎ Reaches ns root x
 
 -- While a head's reach is listed, but for what a root keeps: out is listed, and the frontier is still to be looked at.
@@ -35,25 +36,25 @@ pub record IsListing (was may : Ref → Type 0) (first ns : Contents) (head : Re
     (walk : Walked) : Type 0 where
   pub listed : (r : Ref) → Contains out r → Reaches ns (stamp_of head) (stamp_of r)
   pub apart : (r : Ref) → Contains out r → Reaches ns root (stamp_of r) → ⊥
-  pub ahead : (f : Found) → Contains walk.ahead f → Reaches ns (stamp_of head) (stamp_in f) × IsSpelled ns f
+  pub ahead : (f : NamedNode) → Contains walk.ahead f → Reaches ns (stamp_of head) (stamp_in f) × IsSpelled ns f
   pub begun : Has ns root out walk.ahead (stamp_of head)
   pub whole : (r : Ref) → Contains out r → (n : Node ℕ) × (slice_get ns (stamp_of r) ≡ Some n)
       × ((c : ℕ) → Contains (children n) c → Has ns root out walk.ahead c)
   pub places : AreAll may out
   pub places_ahead : AreFound may walk.ahead
   pub falls : Falls (stamps_of out)
-  pub above : (r : Ref) (f : Found) → Contains out r → Contains walk.ahead f → stamp_in f < stamp_of r
+  pub above : (r : Ref) (f : NamedNode) → Contains out r → Contains walk.ahead f → stamp_in f < stamp_of r
   pub met : (x : ℕ) → Contains walk.met x → Has ns root out walk.ahead x
   pub rooted : IsSome (map_at ns root)
   pub grown : IsPrefix first ns
   pub wider : (r : Ref) → was r → may r
 
 -- for a measure: a number above the stamps of all
-abbrev pub bound : List Found → ℕ
+abbrev pub bound : List NamedNode → ℕ
 bound [] = 0
 bound (f ∷ fs) = max (suc (stamp_in f)) (bound fs)
 
-below_bound : (fs : List Found) (f : Found) → Contains fs f → stamp_in f < bound fs
+below_bound : (fs : List NamedNode) (f : NamedNode) → Contains fs f → stamp_in f < bound fs
 below_bound [] f h = absurd (no_element f h)
 below_bound (g ∷ fs) f h = elim (cons_cases g fs f h) [
   | inl e ↦ (let l : stamp_in f ≡ stamp_in g = ap stamp_in (sym e) in grind (arith, l))
@@ -61,7 +62,7 @@ below_bound (g ∷ fs) f h = elim (cons_cases g fs f h) [
       (arith, below_bound fs f q)
 ]
 
-bound_all : (fs : List Found) (n : ℕ) → ((f : Found) → Contains fs f → stamp_in f < n) → bound fs ≤ n
+bound_all : (fs : List NamedNode) (n : ℕ) → ((f : NamedNode) → Contains fs f → stamp_in f < n) → bound fs ≤ n
 bound_all [] n h = omega arith
 bound_all (f ∷ fs) n h =
     let one : stamp_in f < n = h f (first_here f fs) in
@@ -107,9 +108,9 @@ pub listing_begins : (may : Ref → Type 0) (first : Contents) (head : Ref) (roo
     → IsPrefix first first → may head
     → IsListing may may first first head root [] walk
 listing_begins may first head root v start walk s o none only adds pre here =
-    let is : (f : Found) → Contains walk.ahead f
+    let is : (f : NamedNode) → Contains walk.ahead f
     → found.Commit head ≡ f = λ f h. elim (adds.from f h) [
-      | inl p ↦ absurd (no_element f (subst (λ (w : List Found). Contains w f) none p))
+      | inl p ↦ absurd (no_element f (subst (λ (w : List NamedNode). Contains w f) none p))
       | inr q ↦ only_one (found.Commit head) f q
     ] in
     let either : (x : ℕ) → HasStamp walk.ahead x ⊎ Contains start.met x
@@ -120,12 +121,12 @@ listing_begins may first head root v start walk s o none only adds pre here =
     record {
       listed = λ r h. absurd (no_element r h);
       apart = λ r h k. no_element r h;
-      ahead = λ f h. subst (λ (g : Found). Reaches first (stamp_of head) (stamp_in g) × IsSpelled first g) (is f h)
+      ahead = λ f h. subst (λ (g : NamedNode). Reaches first (stamp_of head) (stamp_in g) × IsSpelled first g) (is f h)
           (itself (stamp_of head), (v, s));
       begun = either (stamp_of head) (adds.added (found.Commit head) (one_here (found.Commit head)));
       whole = λ r h. absurd (no_element r h);
       places = λ r h. absurd (no_element r h);
-      places_ahead = λ f h. subst (λ (g : Found). may (ref_in g)) (is f h) here;
+      places_ahead = λ f h. subst (λ (g : NamedNode). may (ref_in g)) (is f h) here;
       falls = tt;
       above = λ r f h i. absurd (no_element r h);
       met = λ x h. either x (adds.met x h);
@@ -135,14 +136,15 @@ listing_begins may first head root v start walk s o none only adds pre here =
     }
 
 -- One step: the greatest of the frontier is listed, and its children join the frontier.
-pub listing_step : (was may : Ref → Type 0) (first ns : Contents) (head : Ref) (root : ℕ) (at : Found) (n : Node Ref)
+pub listing_step : (was may : Ref → Type 0) (first ns : Contents) (head : Ref) (root : ℕ) (at : NamedNode)
+    (n : Node Ref)
     (out : List Ref) (keys rest news : Walked)
     → IsListing was may first ns head root out keys → keys.ahead ≡ rest.ahead ++ at ∷ [] → rest.met ≡ keys.met
-    → ((f : Found) → Contains rest.ahead f → stamp_in f < stamp_in at)
+    → ((f : NamedNode) → Contains rest.ahead f → stamp_in f < stamp_in at)
     → (Reaches ns root (stamp_in at) → ⊥) → AreAll may (children n) → slice_get ns (stamp_in at) ≡ Some (content_of n)
     → Adds rest (found_in n) news → IsListing was may first ns head root (out ++ ref_in at ∷ []) news
 listing_step was may first ns head root at n out keys rest news is cut same low free shown lies adds =
-    let in_rest : (f : Found) → Contains rest.ahead f
+    let in_rest : (f : NamedNode) → Contains rest.ahead f
     → Contains keys.ahead f = λ f h. subst (λ ks. Contains ks f) (sym cut) (Contains-append_left rest.ahead
     (at ∷ []) f h) in
     let at_keys : Contains keys.ahead at = subst (λ ks. Contains ks at) (sym cut)
@@ -151,10 +153,10 @@ listing_step was may first ns head root at n out keys rest news is cut same low 
     let spelled = (is.ahead at at_keys).1 in
     let stamps : stamps_of (out ++ ref_in at ∷ [])
     ≡ stamps_of out ++ stamp_in at ∷ [] = map-append stamp_of out (ref_in at ∷ []) in
-    let child : (f : Found) → Contains (found_in n) f
+    let child : (f : NamedNode) → Contains (found_in n) f
     → Contains (children (content_of n)) (stamp_in f) = λ f h. subst (λ (w : List ℕ). Contains w (stamp_in f))
     (found_stamps n) (map_to stamp_in (found_in n) f h) in
-    let lower : (f : Found) → Contains (found_in n) f
+    let lower : (f : NamedNode) → Contains (found_in n) f
     → stamp_in f < stamp_in at = λ f h. (child_there ns (stamp_in at) (stamp_in f) (content_of n)
     (there_found ns at spelled) lies (child f h)).0 in
     let listed_at : Contains (stamps_of (out ++ ref_in at ∷ [])) (stamp_in at) = subst
@@ -259,13 +261,14 @@ listing_noted was may first ns head root out keys rest noted is same notes = rec
 }
 
 -- What the root keeps is passed over.
-pub listing_skip : (was may : Ref → Type 0) (first ns : Contents) (head : Ref) (root : ℕ) (at : Found) (out : List Ref)
+pub listing_skip : (was may : Ref → Type 0) (first ns : Contents) (head : Ref) (root : ℕ) (at : NamedNode)
+    (out : List Ref)
     (keys rest : Walked)
     → IsListing was may first ns head root out keys → keys.ahead ≡ rest.ahead ++ at ∷ [] → rest.met ≡ keys.met
     → Reaches ns root (stamp_in at)
     → IsListing was may first ns head root out rest
 listing_skip was may first ns head root at out keys rest is cut same kept =
-    let in_rest : (f : Found) → Contains rest.ahead f
+    let in_rest : (f : NamedNode) → Contains rest.ahead f
     → Contains keys.ahead f = λ f h. subst (λ ks. Contains ks f) (sym cut) (Contains-append_left rest.ahead
     (at ∷ []) f h) in
     let moved : (c : ℕ) → Has ns root out keys.ahead c → Has ns root out rest.ahead c = λ c h. elim h [
@@ -295,14 +298,14 @@ listing_skip was may first ns head root at out keys rest is cut same kept =
     }
 
 -- the frontier falls
-pub listing_falls : (ns : Contents) (at : Found) (n : Node Ref) (keys rest news : Walked) → IsSpelled ns at
-    → keys.ahead ≡ rest.ahead ++ at ∷ [] → ((f : Found) → Contains rest.ahead f → stamp_in f < stamp_in at)
+pub listing_falls : (ns : Contents) (at : NamedNode) (n : Node Ref) (keys rest news : Walked) → IsSpelled ns at
+    → keys.ahead ≡ rest.ahead ++ at ∷ [] → ((f : NamedNode) → Contains rest.ahead f → stamp_in f < stamp_in at)
     → slice_get ns (stamp_in at) ≡ Some (content_of n) → Adds rest (found_in n) news
     → bound news.ahead < bound keys.ahead
 listing_falls ns at n keys rest news spelled cut low lies adds =
     let at_keys : Contains keys.ahead at = subst (λ ks. Contains ks at) (sym cut)
     (Contains-append_right rest.ahead (at ∷ []) at (one_here at)) in
-    let lower : (f : Found) → Contains (found_in n) f
+    let lower : (f : NamedNode) → Contains (found_in n) f
     → stamp_in f < stamp_in at = λ f h. (child_there ns (stamp_in at) (stamp_in f) (content_of n)
     (there_found ns at spelled) lies
     (subst (λ (w : List ℕ). Contains w (stamp_in f)) (found_stamps n) (map_to stamp_in (found_in n) f h))).0 in
@@ -310,8 +313,8 @@ listing_falls ns at n keys rest news spelled cut low lies adds =
     elim (adds.from f h) [ inl p ↦ low f p | inr q ↦ lower f q ]) in
     omega (arith, top, below_bound keys.ahead at at_keys)
 
-pub skip_falls : (at : Found) (keys rest : List Found) → keys ≡ rest ++ at ∷ []
-    → ((f : Found) → Contains rest f → stamp_in f < stamp_in at) → bound rest < bound keys
+pub skip_falls : (at : NamedNode) (keys rest : List NamedNode) → keys ≡ rest ++ at ∷ []
+    → ((f : NamedNode) → Contains rest f → stamp_in f < stamp_in at) → bound rest < bound keys
 skip_falls at keys rest cut low =
     let at_keys : Contains keys at = subst (λ ks. Contains ks at) (sym cut)
     (Contains-append_right rest (at ∷ []) at (one_here at)) in
@@ -331,7 +334,7 @@ listing_ends was may first ns head root out walk is none x =
       | inr k ↦ inr k
       | inl g ↦ elim g [
         | inl p ↦ inl p
-        | inr q ↦ absurd (no_element q.0 (subst (λ (w : List Found). Contains w q.0) none q.1))
+        | inr q ↦ absurd (no_element q.0 (subst (λ (w : List NamedNode). Contains w q.0) none q.1))
       ]
     ] in
     let o = map_ordered ns root is.rooted in

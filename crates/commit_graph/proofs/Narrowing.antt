@@ -15,7 +15,7 @@ use Rattle.group_history.specs.Spelling.{Contents, Segment, segment_at, map_at}
 use Rattle.group_history.proofs.Lists.{only_one, one_here, prefix_trans, map_from, map_to}
 use Rattle.map_chunks.specs.Places.{AreAll}
 use Rattle.map_chunks.proofs.KeptLemmas.{IfAt}
-use Rattle.commit_graph.specs.declared.founds.Found.TheVariants as found
+use Rattle.commit_graph.specs.declared.founds.NamedNode.TheVariants as found
 use Rattle.commit_graph.specs.declared.gaps.Tops.{Tops}
 use Rattle.commit_graph.specs.Reach.{Reaches, itself, through}
 use Rattle.commit_graph.specs.Inside.Gaps.{IsTops}

@@ -12,7 +12,7 @@ use Rattle.group_history.specs.Naming.{children, chunk_children, content_of}
 use Rattle.group_history.specs.Refs.{stamp_of}
 use Rattle.group_history.specs.Spelling.{Contents, Segment, segment_at}
 use Rattle.group_history.proofs.Lists.{one_here, map_from, map_to}
-use Rattle.commit_graph.specs.declared.founds.Found.TheVariants as found
+use Rattle.commit_graph.specs.declared.founds.NamedNode.TheVariants as found
 use Rattle.commit_graph.specs.Inside.Meeting.{child_for, LiesChunk}
 use Rattle.commit_graph.specs.Reach.{Reaches, stamps_of}
 use Rattle.commit_graph.specs.Inside.Reach.{Notes, Walked, found_in, stamp_in}
@@ -86,7 +86,8 @@ pub chosen_child : (key : Bytes) (c : Chunk Ref) (child : Ref) → child_for key
 chosen_child key c child is = child_may (Contains (chunk_children c)) key c (Some child) (λ r h. h) (sym is)
 
 -- what a look at the chunk at hand noted
-pub below_noted : (ns more : Contents) (root : ℕ) (at : Ref) (c : Chunk Ref) (a b : Walked) → IsBelow ns root (stamp_of at)
+pub below_noted : (ns more : Contents) (root : ℕ) (at : Ref) (c : Chunk Ref) (a b : Walked)
+    → IsBelow ns root (stamp_of at)
     → IsPrefix ns more → LiesChunk more (stamp_of at) c → Notes (Contains (stamps_of (chunk_children c))) a b
     → Notes (Reaches more root) a b
 below_noted ns more root at c a b is pre lies noted = notes_wider (Contains (stamps_of (chunk_children c)))

@@ -20,8 +20,8 @@ use Rattle.group_history.specs.Naming.{children, commits_named, renamed_kind, co
 use Rattle.group_history.specs.Spelling.{Contents, Segment, Version, Spelled, segment, version, as_segment, as_version}
 use Rattle.group_history.specs.Spelling.{spelled, segment_at, version_at, map_at, segment_map}
 use Rattle.group_history.proofs.Folding.{and_then-some}
-use Rattle.commit_graph.specs.declared.founds.Found.{Found}
-use Rattle.commit_graph.specs.declared.founds.Found.TheVariants as found
+use Rattle.commit_graph.specs.declared.founds.NamedNode.{NamedNode}
+use Rattle.commit_graph.specs.declared.founds.NamedNode.TheVariants as found
 use Rattle.commit_graph.specs.Reach.{Reaches, itself, through}
 use Rattle.commit_graph.specs.Inside.Reach.{IsSpelled, stamp_in, ref_in, found_in}
 use Rattle.commit_graph.proofs.Spelled.{IsMade, commit-made, inner-at, commit-at, chunk-at, content-at, spelled_version}
@@ -146,16 +146,16 @@ found_refs (node.Chunk (Leaf rows)) = refl
 found_refs (node.Chunk (Inner kids)) = kid_refs (values_of kids)
 found_refs (node.Commit c) = ap (λ w. c.root ∷ w) (named_refs c.kind)
 
-pub there_found : (ns : Contents) (f : Found) → IsSpelled ns f → IsThere ns (stamp_in f)
+pub there_found : (ns : Contents) (f : NamedNode) → IsSpelled ns f → IsThere ns (stamp_in f)
 there_found ns (found.Chunk r) s = there_segment ns (stamp_of r) s.0 s.1
 there_found ns (found.Commit r) s = there_version ns (stamp_of r) s.0 s.1
 
-pub spelled_grown : (ns more : Contents) (f : Found) → IsPrefix ns more → IsSpelled ns f → IsSpelled more f
+pub spelled_grown : (ns more : Contents) (f : NamedNode) → IsPrefix ns more → IsSpelled ns f → IsSpelled more f
 spelled_grown ns more (found.Chunk r) pre s = (s.0, segment-grown ns more (stamp_of r) s.0 pre s.1)
 spelled_grown ns more (found.Commit r) pre s = (s.0, version-grown ns more (stamp_of r) s.0 pre s.1)
 
 -- What a node names is of its kind.
-commit_names : (ns : Contents) (k : ℕ) (c : Commit Ref) (v : Version) (f : Found)
+commit_names : (ns : Contents) (k : ℕ) (c : Commit Ref) (v : Version) (f : NamedNode)
     → slice_get ns k ≡ Some (commit_content c) → version_at ns k ≡ Some v → Contains (found_in (node.Commit c)) f
     → IsSpelled ns f
 commit_names ns k c v f is h has =
@@ -168,10 +168,10 @@ commit_names ns k c v f is h has =
           (map_to stamp_in (map found.Commit (commits_named c.kind)) f q) in
           let d = named_commit ns k (stamp_in f) (renamed_kind stamp_of c.kind) v a.3 low in
           subst (IsSpelled ns) r.2 (some_version ns (stamp_of r.0)
-          (subst (λ (w : Found). IsSome (version_at ns (stamp_in w))) (sym r.2) d.1))
+          (subst (λ (w : NamedNode). IsSome (version_at ns (stamp_in w))) (sym r.2) d.1))
     ]
 
-chunk_names : (ns : Contents) (k : ℕ) (c : Chunk Ref) (s : Segment) (f : Found)
+chunk_names : (ns : Contents) (k : ℕ) (c : Chunk Ref) (s : Segment) (f : NamedNode)
     → slice_get ns k ≡ Some (chunk_content c) → segment_at ns k ≡ Some s → Contains (found_in (node.Chunk c)) f
     → IsSpelled ns f
 chunk_names ns k (Leaf rows) s f is h has = absurd (no_element f has)
@@ -181,9 +181,9 @@ chunk_names ns k (Inner kids) s f is h has =
     let low = subst (λ (w : List ℕ). Contains w (stamp_in f)) (kid_stamps kids)
     (map_to stamp_in (map found.Chunk (values_of kids)) f has) in
     let t = a.2 (stamp_in f) low in
-    subst (IsSpelled ns) r.2 (t.1.0, ap (λ (w : Found). segment_at ns (stamp_in w)) r.2 ∙ t.1.1)
+    subst (IsSpelled ns) r.2 (t.1.0, ap (λ (w : NamedNode). segment_at ns (stamp_in w)) r.2 ∙ t.1.1)
 
-pub names_spelled : (ns : Contents) (at f : Found) (n : Node Ref) → IsSpelled ns at
+pub names_spelled : (ns : Contents) (at f : NamedNode) (n : Node Ref) → IsSpelled ns at
     → slice_get ns (stamp_in at) ≡ Some (content_of n) → Contains (found_in n) f → IsSpelled ns f
 names_spelled ns (found.Chunk r) f (node.Chunk c) s is has = chunk_names ns (stamp_of r) c s.0 f is s.1 has
 names_spelled ns (found.Chunk r) f (node.Commit c) s is has = let m = chunk-at ns (stamp_of r)

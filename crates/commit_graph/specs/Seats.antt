@@ -15,13 +15,13 @@ pub record GroupId : Type 0 where
   pub table : ClaimsId
 
 -- a seat: which claims table it is of, what it knows of that, and what it has seen of the book
-pub record Seated : Type 0 where
+pub record SeatState : Type 0 where
   pub table : ClaimsId
   pub view : View
   pub mark : Known
 
 -- it is a seat of this group
-abbrev pub IsSeatOf : GroupId → Seated → Type 0
+abbrev pub IsSeatOf : GroupId → SeatState → Type 0
 IsSeatOf group seat = (seat.mark.book ≡ group.book) × (seat.table ≡ group.table)
 
 -- the pin is held, at some epoch
@@ -34,7 +34,7 @@ abbrev pub StaysHeld : View → View → Type 0
 StaysHeld v u = is_held v.pin ≡ true → is_held u.pin ≡ true
 
 -- it is a seat of this group, and where slots are used again its pin is held
-abbrev pub IsReading : Type 0 → GroupId → Seated → Type 0
+abbrev pub IsReading : Type 0 → GroupId → SeatState → Type 0
 IsReading reused group seat = IsSeatOf group seat × (reused → is_held seat.view.pin ≡ true)
 
 -- What a caller knows later: of the same book, by the same seat, and no less.
@@ -44,7 +44,7 @@ pub record IsLater (old new : Known) : Type 0 where
   pub seen : IsPrefix old.log new.log
 
 -- It is the same seat of the same group, and knows no less.
-pub record IsSameSeat (old new : Seated) : Type 0 where
+pub record IsSameSeat (old new : SeatState) : Type 0 where
   pub table : new.table ≡ old.table
   pub later : IsLater old.mark new.mark
 
@@ -57,7 +57,7 @@ pub record IsCalm (v u : View) : Type 0 where
   pub reached : v.reached ≤ u.reached
 
 -- It only looked: it added no entry to the book, and where slots are used again it did nothing to them.
-pub record HasLooked (reused : Type 0) (old new : Seated) : Type 0 where
+pub record HasLooked (reused : Type 0) (old new : SeatState) : Type 0 where
   pub seat : IsSameSeat old new
   pub own : own new.mark ≡ own old.mark
   pub calm : reused → IsCalm old.view new.view

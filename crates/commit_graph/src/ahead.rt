@@ -6,9 +6,9 @@ ghost use Rattle.std.specs.Prelude.{◌≡◌, ◌<◌, ◌++◌, [], ◌∷◌,
 ghost use Rattle.std.specs.BTreeMap.{keys};
 ghost use Rattle.std.specs.List.{Contains};
 ghost use Rattle.commit_graph.specs.Inside.Reach.{stamp_in, Joins};
-ghost use Rattle.commit_graph.specs.declared.founds.Found.{Found as Finding};
+ghost use Rattle.commit_graph.specs.declared.founds.NamedNode.{NamedNode as Finding};
 
-use crate::founds::Found;
+use crate::founds::NamedNode;
 use std::alloc::{AllocError, Global};
 use std::collections::BTreeMap;
 use std::marker::Model;
@@ -16,14 +16,14 @@ use std::marker::Model;
 /// Nodes, one for each stamp.
 #[derive(Drop)]
 pub struct Ahead {
-    tree: BTreeMap<u64, Found>,
+    tree: BTreeMap<u64, NamedNode>,
     // One whose stamp is above all in the tree.
-    top: Option<Found>,
+    top: Option<NamedNode>,
 }
 
 impl Model for Ahead {
     ghost use Rattle.std.specs.Prelude.{List, map, ◌++◌};
-    ghost use Rattle.commit_graph.specs.declared.founds.Found.{Found as Finding};
+    ghost use Rattle.commit_graph.specs.declared.founds.NamedNode.{NamedNode as Finding};
     ghost use Rattle.commit_graph.specs.Inside.Chains.{listed};
     ghost use Rattle.commit_graph.specs.Inside.Reach.{AreKeyed, IsTop};
 
@@ -35,17 +35,17 @@ impl Model for Ahead {
 }
 
 /// The stamp of a node that was found.
-pub fn stamp_in(found: Found) -> u64
+pub fn stamp_in(found: NamedNode) -> u64
     ensures { result ≡ stamp_in found }
 {
     match found {
-        Found::Chunk(at) => at.stamp(),
-        Found::Commit(at) => at.stamp(),
+        NamedNode::Chunk(at) => at.stamp(),
+        NamedNode::Commit(at) => at.stamp(),
     }
 }
 
 // Whether all in a tree stand under smaller stamps.
-fn is_above(tree: &BTreeMap<u64, Found>, stamp: u64) -> bool
+fn is_above(tree: &BTreeMap<u64, NamedNode>, stamp: u64) -> bool
     ensures { IsTrue result → (k : ℕ) → Contains (keys tree.now) k → k < stamp }
 {
     match tree.last_key_value() {
@@ -66,7 +66,7 @@ impl Ahead {
     }
 
     /// Puts a node in. Of two of one stamp one stays.
-    pub fn put(&mut self, found: Found) -> Result<(), AllocError>
+    pub fn put(&mut self, found: NamedNode) -> Result<(), AllocError>
         ensures { OnOk result (Joins self.old (found ∷ []) self.new) }
     {
         let stamp = stamp_in(found);
@@ -92,7 +92,7 @@ impl Ahead {
     }
 
     /// Takes the node of the greatest stamp.
-    pub fn pop(&mut self) -> Option<Found>
+    pub fn pop(&mut self) -> Option<NamedNode>
         ensures none { IfNone result (self.old ≡ []) }
         ensures some { IfSome result (λ found. self.old ≡ self.new ++ found ∷ []) }
         ensures greatest { IfSome result (λ found. (other : Finding) → Contains self.new other

@@ -23,7 +23,7 @@ use map_chunks::looks::look_at;
 
 /// Where a chunk stands: a key to which it belongs, and its stamp.
 #[derive(Drop)]
-pub struct Spot {
+pub struct ChunkPlace {
     pub key: Text,
     pub stamp: u64,
 }
@@ -46,7 +46,7 @@ fn note_children(frontier: &mut Frontier, chunk: &Chunk<Ref>)
 }
 
 // The child to which the key belongs. Where that one isn't above the stamp, the chunk has the children that are sought.
-fn pass(frontier: &mut Frontier, spot: &Spot, chunk: &Chunk<Ref>) -> Option<Ref>
+fn pass(frontier: &mut Frontier, spot: &ChunkPlace, chunk: &Chunk<Ref>) -> Option<Ref>
     ensures child { result ≡ child_for spot.now.key chunk.now }
     ensures noted { Notes (Contains (stamps_of (chunk_children chunk.now))) frontier.old frontier.new }
 {
@@ -62,7 +62,7 @@ pub fn note_beside<C: Chunks>(
     chunks: &mut C,
     root: Ref,
     frontier: &mut Frontier,
-    spot: &Spot,
+    spot: &ChunkPlace,
 ) -> Result<(), Stop>
     requires root { IsSome (map_at (C.contents chunks.old) (stamp_of root)) }
     requires place { C.places chunks.old root }

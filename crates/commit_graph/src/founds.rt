@@ -3,7 +3,7 @@ use group_history::Ref;
 
 /// A node that a shown one names, by its kind.
 #[derive(Clone, Copy)]
-pub enum Found {
+pub enum NamedNode {
     Chunk(Ref),
     Commit(Ref),
 }

@@ -6,10 +6,10 @@
 ghost use Rattle.std.specs.Prelude.{◌≡◌, ◌<◌, ◌++◌, [], ◌∷◌, ℕ, IfOk, IsTrue, OnOk, IfSome, IfNone};
 ghost use Rattle.std.specs.List.{Contains};
 ghost use Rattle.commit_graph.specs.Inside.Reach.{stamp_in, Adds, Notes};
-ghost use Rattle.commit_graph.specs.declared.founds.Found.{Found as Finding};
+ghost use Rattle.commit_graph.specs.declared.founds.NamedNode.{NamedNode as Finding};
 
 use crate::ahead::{Ahead, stamp_in};
-use crate::founds::Found;
+use crate::founds::NamedNode;
 use crate::met::Met;
 use group_history::Ref;
 use std::alloc::{AllocError, Global};
@@ -44,7 +44,7 @@ impl Frontier {
     }
 
     /// Adds a node, unless it is known to be met.
-    pub fn add(&mut self, found: Found) -> Result<(), AllocError>
+    pub fn add(&mut self, found: NamedNode) -> Result<(), AllocError>
         ensures { OnOk result (Adds self.old (found ∷ []) self.new) }
     {
         let stamp = stamp_in(found);
@@ -71,7 +71,7 @@ impl Frontier {
     }
 
     /// Takes the node of the greatest stamp.
-    pub fn pop(&mut self) -> Option<Found>
+    pub fn pop(&mut self) -> Option<NamedNode>
         ensures none { IfNone result (self.old.ahead ≡ []) }
         ensures some { IfSome result (λ found. self.old.ahead ≡ self.new.ahead ++ found ∷ []) }
         ensures greatest { IfSome result (λ found. (other : Finding) → Contains self.new.ahead other

@@ -41,7 +41,7 @@ impl Gap {
 
 /// What walks pass over: what a root keeps, and a gap in it.
 #[derive(Clone, Copy)]
-pub struct Part {
+pub struct KeptPart {
     pub root: Ref,
     pub gap: Gap,
 }

@@ -12,7 +12,7 @@ ghost use Rattle.commit_graph.specs.Reach.{Reaches};
 ghost use Rattle.commit_graph.specs.Inside.Reach.{IsSpelled, ref_in, stamp_in};
 
 use crate::chains::look_at_commit;
-use crate::founds::Found;
+use crate::founds::NamedNode;
 use crate::gaps::Gap;
 use crate::meeting::meets;
 use crate::nodes::Nodes;
@@ -57,7 +57,7 @@ fn is_chunk_kept<C: Chunks>(chunks: &mut C, root: Ref, at: Ref) -> Result<bool, 
 
 /// Whether the root of a map reaches a node that was found. What is reached has no greater stamp, and none in the gap,
 /// so that such a node isn't looked at.
-pub fn is_kept<N: Nodes>(nodes: &mut N, root: Ref, gap: Gap, at: Found) -> Result<bool, Stop>
+pub fn is_kept<N: Nodes>(nodes: &mut N, root: Ref, gap: Gap, at: NamedNode) -> Result<bool, Stop>
     requires root { IsSome (map_at (N.contents nodes.old) (stamp_of root)) }
     requires gap { HasGap (N.contents nodes.old) (stamp_of root) gap }
     requires places { N.places nodes.old root × N.places nodes.old (ref_in at) }
@@ -68,10 +68,10 @@ pub fn is_kept<N: Nodes>(nodes: &mut N, root: Ref, gap: Gap, at: Found) -> Resul
 {
     let newest = root.stamp();
     match at {
-        Found::Chunk(at) if at.stamp() > newest => Ok(false),
-        Found::Chunk(at) if gap.has(at) => Ok(false),
-        Found::Chunk(at) => is_chunk_kept(nodes, root, at),
-        Found::Commit(_) => Ok(false),
+        NamedNode::Chunk(at) if at.stamp() > newest => Ok(false),
+        NamedNode::Chunk(at) if gap.has(at) => Ok(false),
+        NamedNode::Chunk(at) => is_chunk_kept(nodes, root, at),
+        NamedNode::Commit(_) => Ok(false),
     }
 }
 

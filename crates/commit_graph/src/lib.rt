@@ -3,7 +3,7 @@
 //! A commit is a snapshot, which is what the server last sent, or one over the commit before it, which adds a mutation
 //! or closes the group. So a head spells a state by the chain below it. The nodes are read where they were placed,
 //! through `Nodes`; nothing here changes one. Every call asks that the head's commit spells a version. That slots are
-//! not used again while the head or a reader can reach them is the law of `joined_machine`.
+//! not used again while the head or a reader can reach them is the law of `reclamation_law`.
 //!
 //! `dropped(old, new)` lists what the old head reaches and the new one does not, each once, by falling stamps. Let R be
 //! the root of the new head's pulled map. The new head reaches all that R reaches, so reach(old) - reach(new) =
@@ -48,7 +48,7 @@ pub use handing::{TakesMutations, hand_pending};
 pub use map_chunks::VecChunks as VecNodes;
 pub use nodes::{Nodes, ShowsCommit};
 pub use reaching::dropped;
-pub use seats::{Seat, Shared};
+pub use seats::{ClientSeat, Shared};
 pub use shelves::LentCommit;
 pub use states::{
     CommitState, LastId, base_at, base_of, closed_of, cookie_of, last_id_since, read_root,

@@ -12,13 +12,13 @@ ghost use Rattle.group_history.specs.declared.mutators.Stop.TheVariants.{NoMemor
 ghost use Rattle.map_chunks.specs.Places.{Grows, AreAll, IsShown};
 ghost use Rattle.commit_graph.specs.Reach.{Reaches};
 ghost use Rattle.commit_graph.specs.Inside.Reach.{Adds, Notes, Walked, IsSpelled, ref_in, stamp_in, found_in};
-ghost use Rattle.commit_graph.specs.declared.founds.Found.TheVariants as found;
+ghost use Rattle.commit_graph.specs.declared.founds.NamedNode.TheVariants as found;
 
-use crate::beside::{Spot, note_beside};
+use crate::beside::{ChunkPlace, note_beside};
 use crate::chains::look_at_commit;
-use crate::founds::Found;
+use crate::founds::NamedNode;
 use crate::frontiers::Frontier;
-use crate::gaps::Part;
+use crate::gaps::KeptPart;
 use crate::nodes::Nodes;
 use group_history::{Chunk, Commit, CommitKind, Ref, Stop, Text};
 use map_chunks::Chunks;
@@ -29,7 +29,7 @@ fn add_chunks(frontier: &mut Frontier, roots: &[Ref]) -> Result<(), AllocError>
     ensures { OnOk result (Adds frontier.old (map found.Chunk roots.now) frontier.new) }
 {
     for root in roots {
-        frontier.add(Found::Chunk(*root))?;
+        frontier.add(NamedNode::Chunk(*root))?;
     }
     Ok(())
 }
@@ -46,8 +46,8 @@ fn add_of_chunk(frontier: &mut Frontier, chunk: &Chunk<Ref>) -> Result<(), Alloc
 fn add_commits(frontier: &mut Frontier, basis: Ref, snapshot: Ref) -> Result<(), AllocError>
     ensures { OnOk result (Adds frontier.old (found.Commit basis ∷ found.Commit snapshot ∷ []) frontier.new) }
 {
-    frontier.add(Found::Commit(basis))?;
-    frontier.add(Found::Commit(snapshot))
+    frontier.add(NamedNode::Commit(basis))?;
+    frontier.add(NamedNode::Commit(snapshot))
 }
 
 fn add_named(frontier: &mut Frontier, kind: &CommitKind<Ref>) -> Result<(), AllocError>
@@ -62,17 +62,17 @@ fn add_named(frontier: &mut Frontier, kind: &CommitKind<Ref>) -> Result<(), Allo
 fn add_of_commit(frontier: &mut Frontier, commit: &Commit<Ref>) -> Result<(), AllocError>
     ensures { OnOk result (Adds frontier.old (found_in (node.Commit commit.now)) frontier.new) }
 {
-    frontier.add(Found::Chunk(commit.root))?;
+    frontier.add(NamedNode::Chunk(commit.root))?;
     add_named(frontier, &commit.kind)
 }
 
 // A child of which a look alone can tell whether the part's root keeps it.
 fn unsure_of(
     frontier: &Frontier,
-    part: Part,
+    part: KeptPart,
     firsts: &[Text],
     children: &[Ref],
-) -> Result<Option<Spot>, AllocError>
+) -> Result<Option<ChunkPlace>, AllocError>
     requires { length children.now ≡ length firsts.now }
 {
     let newest = part.root.stamp();
@@ -83,16 +83,16 @@ fn unsure_of(
             continue;
         }
         let key = firsts[place].clone()?;
-        return Ok(Some(Spot { key, stamp }));
+        return Ok(Some(ChunkPlace { key, stamp }));
     }
     Ok(None)
 }
 
 fn unsure_in(
     frontier: &Frontier,
-    part: Part,
+    part: KeptPart,
     chunk: &Chunk<Ref>,
-) -> Result<Option<Spot>, AllocError> {
+) -> Result<Option<ChunkPlace>, AllocError> {
     match chunk {
         Chunk::Leaf(_) => Ok(None),
         Chunk::Inner(_) if part.gap.is_empty() => Ok(None),
@@ -109,9 +109,9 @@ fn unsure_in(
 // that there is no gap, few are, and each descent would be one more.
 fn add_or_tell(
     frontier: &mut Frontier,
-    part: Part,
+    part: KeptPart,
     chunk: &Chunk<Ref>,
-) -> Result<Option<Spot>, AllocError>
+) -> Result<Option<ChunkPlace>, AllocError>
     ensures none { IfOk result (λ spot. IfNone spot
         (Adds frontier.old (found_in (node.Chunk chunk.now)) frontier.new)) }
     ensures some { IfOk result (λ spot. IsSome spot → frontier.new ≡ frontier.old) }
@@ -126,7 +126,7 @@ fn add_or_tell(
 // Shows a chunk; its children join the frontier, but for some that the part's root keeps.
 fn look_at_chunk<C: Chunks>(
     chunks: &mut C,
-    part: Part,
+    part: KeptPart,
     frontier: &mut Frontier,
     at: Ref,
 ) -> Result<(), Stop>
@@ -165,9 +165,9 @@ fn look_at_chunk<C: Chunks>(
 /// Shows the node that was found; what it names joins the frontier, but for some that the part's root keeps.
 pub fn look<N: Nodes>(
     nodes: &mut N,
-    part: Part,
+    part: KeptPart,
     frontier: &mut Frontier,
-    at: Found,
+    at: NamedNode,
 ) -> Result<(), Stop>
     requires found { IsSpelled (N.contents nodes.old) at }
     requires root { IsSome (map_at (N.contents nodes.old) (stamp_of part.root)) }
@@ -181,8 +181,8 @@ pub fn look<N: Nodes>(
     ensures stopped { IfErr result (λ stop. (stop ≡ NoMemory) ⊎ N.stops stop) }
 {
     match at {
-        Found::Chunk(at) => look_at_chunk(nodes, part, frontier, at),
-        Found::Commit(at) => Ok(look_at_commit(
+        NamedNode::Chunk(at) => look_at_chunk(nodes, part, frontier, at),
+        NamedNode::Commit(at) => Ok(look_at_commit(
             nodes,
             at,
             &mut |commit| add_of_commit(frontier, commit),

@@ -10,15 +10,15 @@ ghost use Rattle.group_history.specs.Naming.{children, content_of};
 ghost use Rattle.group_history.specs.declared.nodes.Node.{Node as Noded};
 ghost use Rattle.group_history.specs.declared.refs.Ref.{Ref as Reference};
 ghost use Rattle.group_history.specs.declared.mutators.Stop.TheVariants.{NoMemory};
-ghost use Rattle.commit_graph.specs.declared.founds.Found.TheVariants as found;
+ghost use Rattle.commit_graph.specs.declared.founds.NamedNode.TheVariants as found;
 ghost use Rattle.map_chunks.specs.Places.{Grows, AreAll};
 ghost use Rattle.commit_graph.specs.Reach.{Reaches, IsDropped, Falls, stamps_of};
 ghost use Rattle.commit_graph.specs.Inside.Gaps.{HasGap};
 ghost use Rattle.commit_graph.specs.Inside.Reach.{Adds, Notes, Walked, IsSpelled, found_in, stamp_in, ref_in};
 
-use crate::founds::Found;
+use crate::founds::NamedNode;
 use crate::frontiers::Frontier;
-use crate::gaps::{Part, gap_below};
+use crate::gaps::{KeptPart, gap_below};
 use crate::keeping::{base_root, is_kept};
 use crate::looks::look;
 use crate::merging::{add, without};
@@ -26,22 +26,22 @@ use crate::nodes::Nodes;
 use group_history::{Ref, Stop};
 use std::alloc::{AllocError, Global};
 
-fn ref_in(found: Found) -> Ref
+fn ref_in(found: NamedNode) -> Ref
     ensures { result ≡ ref_in found }
 {
     match found {
-        Found::Chunk(at) => at,
-        Found::Commit(at) => at,
+        NamedNode::Chunk(at) => at,
+        NamedNode::Commit(at) => at,
     }
 }
 
 // One node of a walk: where the root keeps it, it is passed over with all below it.
 fn visit<N: Nodes>(
     nodes: &mut N,
-    part: Part,
+    part: KeptPart,
     frontier: &mut Frontier,
     listed: &mut Vec<Ref>,
-    at: Found,
+    at: NamedNode,
 ) -> Result<(), Stop>
     requires root { IsSome (map_at (N.contents nodes.old) (stamp_of part.root)) }
     requires gap { HasGap (N.contents nodes.old) (stamp_of part.root) part.gap }
@@ -72,7 +72,7 @@ fn begun(alloc: Global, head: Ref, root: Ref) -> Result<Frontier, AllocError>
         (found.Commit head ∷ []) frontier) }
 {
     let mut frontier = Frontier::new(alloc, root.stamp())?;
-    frontier.add(Found::Commit(head))?;
+    frontier.add(NamedNode::Commit(head))?;
     Ok(frontier)
 }
 
@@ -81,7 +81,7 @@ fn reachable<N: Nodes>(
     alloc: Global,
     nodes: &mut N,
     head: Ref,
-    part: Part,
+    part: KeptPart,
 ) -> Result<Vec<Ref>, Stop>
     requires head { IsSome (version_at (N.contents nodes.old) (stamp_of head)) }
     requires places { N.places nodes.old head × N.places nodes.old part.root }
@@ -103,7 +103,7 @@ fn reachable<N: Nodes>(
 }
 
 // The new head's pulled map, with a gap up to the old head.
-fn kept_part<N: Nodes>(nodes: &mut N, old: Ref, new: Ref) -> Result<Part, Stop>
+fn kept_part<N: Nodes>(nodes: &mut N, old: Ref, new: Ref) -> Result<KeptPart, Stop>
     requires known { IsSome (version_at (N.contents nodes.old) (stamp_of new)) }
     requires place { N.places nodes.old new }
     ensures grown { Grows N.contents N.places nodes.old nodes.new }
@@ -115,7 +115,7 @@ fn kept_part<N: Nodes>(nodes: &mut N, old: Ref, new: Ref) -> Result<Part, Stop>
 {
     let root = base_root(nodes, new)?;
     let gap = gap_below(nodes, root, old.stamp())?;
-    Ok(Part { root, gap })
+    Ok(KeptPart { root, gap })
 }
 
 /// What the old head reaches and the new one doesn't: the nodes that a change of the head from `old` to `new` leaves

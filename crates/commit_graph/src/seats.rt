@@ -30,26 +30,26 @@ impl<M: Means, S: Slots<M>> Model for Shared<M, S> {
 
 /// A seat of a group: what its client claims slots with, and what it has seen of the book, which knows the seat by
 /// a number.
-pub struct Seat<M: Means, S: Slots<M>> {
+pub struct ClientSeat<M: Means, S: Slots<M>> {
     pub slots: S::Seat,
     pub mark: Mark<M>,
 }
 
-impl<M: Means, S: Slots<M>> Drop for Seat<M, S> {
+impl<M: Means, S: Slots<M>> Drop for ClientSeat<M, S> {
     fn drop(self) {
-        let Seat { slots, mark } = self;
+        let ClientSeat { slots, mark } = self;
         drop(slots);
         drop(mark);
     }
 }
 
-impl<M: Means, S: Slots<M>> Model for Seat<M, S> {
+impl<M: Means, S: Slots<M>> Model for ClientSeat<M, S> {
     ghost use Rattle.std.specs.Prelude.{IsSome};
     ghost use Rattle.std.specs.Coded.{codes};
     ghost use Rattle.head_word.specs.contracts.entry.Entry as entry;
-    ghost use Rattle.commit_graph.specs.Seats.{Seated};
+    ghost use Rattle.commit_graph.specs.Seats.{SeatState};
 
-    ghost Value = { Seated };
+    ghost Value = { SeatState };
 
     ghost coded = { Prim.hlevel (codes, entry.the_row.coded) };
 

@@ -14,7 +14,7 @@ ghost use Rattle.commit_graph.specs.Stores.{IsStoreStop};
 ghost use Rattle.commit_graph.specs.Inside.Kinds.{is_chunk, chunk_of, commit_of};
 
 use crate::nodes::{Nodes, ShowsCommit};
-use crate::seats::{Seat, Shared};
+use crate::seats::{ClientSeat, Shared};
 use chunk_slots::{Shown, Slots};
 use group_history::{Chunk, Commit, Means, Node, Ref, Stop};
 use head_word::{Mark, one_record};
@@ -131,7 +131,7 @@ impl<'a, M: Means, S: Slots<M>> StoreNodes<'a, M, S> {
     /// lost to other clients is tried for so many times.
     pub fn new(
         shared: &'a Shared<M, S>,
-        seat: &'a Seat<M, S>,
+        seat: &'a ClientSeat<M, S>,
         mark: &'a Mark<M>,
         tries: u32,
     ) -> StoreNodes<'a, M, S>

@@ -9,20 +9,20 @@ use Rattle.std.proofs.lemmas.List.Elements.{All-pop}
 use Rattle.group_history.specs.declared.refusals.Refusal.TheVariants.{NoMemory}
 use Rattle.client_desk.specs.declared.outcomes.Outcome.TheVariants.{Refused}
 use Rattle.client_desk.specs.Numbers.{outcome_number}
-use Rattle.host_places.specs.Opening.{IsNew}
+use Rattle.host_places.specs.Opening.{IsFreshPlace}
 use Rattle.host_places.specs.Desks.{DeskState}
 use Rattle.rebase.specs.Clients.{Grouped}
 use Rattle.giqaymu_c.proofs.Cases.{below_or_not}
 use Rattle.giqaymu_c.proofs.Numbers.{below_bits, below_kept}
 use Rattle.giqaymu_c.specs.declared.handle.Handle.{Handle}
-use Rattle.giqaymu_c.specs.declared.jobs.Reply.{Reply}
-use Rattle.giqaymu_c.specs.Exports.{AreNew, Terms, IsLike, IsNewPlace}
+use Rattle.giqaymu_c.specs.declared.jobs.JobReply.{JobReply}
+use Rattle.giqaymu_c.specs.Exports.{AreNewHandles, Terms, IsLike, IsNewPlace}
 use Rattle.giqaymu_c.specs.Jobs.{Gives, HasGiven}
 use Rattle.giqaymu_c.specs.Spots.{SpotState}
 
 module _ (group : Grouped) (commit : ℕ) (terms : Terms) where
   abbrev Fresh : DeskState → Type 0
-  Fresh d = IsNew group commit d.place
+  Fresh d = IsFreshPlace group commit d.place
 
   abbrev IsOn : Handle → Type 0
   IsOn h = (h.text ≡ terms.text) × (h.asks ≡ terms.asks) × (h.own ≡ terms.own)
@@ -32,8 +32,8 @@ module _ (group : Grouped) (commit : ℕ) (terms : Terms) where
   Gave n next given number = ((number ≡ pos 0) × IsNewPlace group commit terms (n - 1) next
       × IsNewPlace group commit terms 0 given) ⊎ (number ≡ outcome_number (Refused NoMemory))
 
-  given_new : (n : ℕ) (next given : Handle) (spot new : SpotState) (reply : Reply) (at : Option SpotState) → 0 < n
-      → IsNew group commit spot.desk.place → length spot.spare ≡ n → All Fresh spot.spare
+  given_new : (n : ℕ) (next given : Handle) (spot new : SpotState) (reply : JobReply) (at : Option SpotState) → 0 < n
+      → IsFreshPlace group commit spot.desk.place → length spot.spare ≡ n → All Fresh spot.spare
       → IsOn next → IsOn given
       → next.spot ≡ Some new → given.spot ≡ at → Gives spot reply new at → Gave n next given reply.number
   given_new n next given spot new reply None some desk count all same other there gives (_, inl lack) =
@@ -68,7 +68,7 @@ module _ (group : Grouped) (commit : ℕ) (terms : Terms) where
         },
       )
 
-  gave : (n : ℕ) (first next given : Handle) (reply : Reply) → 0 < n → IsNewPlace group commit terms n first
+  gave : (n : ℕ) (first next given : Handle) (reply : JobReply) → 0 < n → IsNewPlace group commit terms n first
       → IsLike first next → IsLike first given → HasGiven first.spot reply next.spot given.spot
       → Gave n next given reply.number
   gave n first next given reply some is same other gives =
@@ -77,7 +77,7 @@ module _ (group : Grouped) (commit : ℕ) (terms : Terms) where
       (same.0 ∙ is.text_is, same.1 ∙ is.asks_is, same.2 ∙ is.own_is)
       (other.0 ∙ is.text_is, other.1 ∙ is.asks_is, other.2 ∙ is.own_is) g.1 refl g.2
 
-  pub gave_next : (n : ℕ) (first next given : Handle) (reply : Reply) → 0 < n → IsNewPlace group commit terms n first
+  pub gave_next : (n : ℕ) (first next given : Handle) (reply : JobReply) → 0 < n → IsNewPlace group commit terms n first
       → IsLike first next → IsLike first given → HasGiven first.spot reply next.spot given.spot
       → of_z w32 reply.number ≡ 0
       → IsNewPlace group commit terms (n - 1) next × IsNewPlace group commit terms 0 given
@@ -87,7 +87,7 @@ module _ (group : Grouped) (commit : ℕ) (terms : Terms) where
         | inr lack ↦ below_bits reply.number (0, lack, omega arith) nought
       ]
 
-  pub gave_none : (n : ℕ) (first next given : Handle) (reply : Reply) → 0 < n → IsNewPlace group commit terms n first
+  pub gave_none : (n : ℕ) (first next given : Handle) (reply : JobReply) → 0 < n → IsNewPlace group commit terms n first
       → IsLike first next → IsLike first given → HasGiven first.spot reply next.spot given.spot
       → (of_z w32 reply.number ≡ 0 → ⊥) → to_z w32 (of_z w32 reply.number) ≡ outcome_number (Refused NoMemory)
   gave_none n first next given reply some is same other gives other_than =
@@ -97,8 +97,8 @@ module _ (group : Grouped) (commit : ℕ) (terms : Terms) where
       ]
 
   pub more_new : (n : ℕ) (places : List Handle) (given : Handle) → n < length places
-      → AreNew group commit terms n places → IsNewPlace group commit terms 0 given
-      → AreNew group commit terms (n + 1) (slice_set places n given)
+      → AreNewHandles group commit terms n places → IsNewPlace group commit terms 0 given
+      → AreNewHandles group commit terms (n + 1) (slice_set places n given)
   more_new n places given within are is i some below d = by_cases (below_or_not i n) where
     by_cases : (i < n) ⊎ (n ≤ i) → IsNewPlace group commit terms 0 (slice_index_or (slice_set places n given) i d)
     by_cases (inl less) = subst (IsNewPlace group commit terms 0)

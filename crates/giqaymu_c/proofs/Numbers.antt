@@ -17,8 +17,8 @@ use Rattle.rule_mutators.specs.Reading.{rules_or_none}
 use Rattle.rule_mutators.specs.Rules.{Rules}
 use Rattle.std.specs.Str.{is_utf8}
 use Rattle.uuid.specs.Text.{parsed}
-use Rattle.client_desk.specs.declared.faults.Fault.{Fault}
-use Rattle.client_desk.specs.declared.faults.Fault.TheVariants as fault
+use Rattle.client_desk.specs.declared.faults.CallFault.{CallFault}
+use Rattle.client_desk.specs.declared.faults.CallFault.TheVariants as fault
 use Rattle.client_desk.specs.declared.outcomes.Outcome.{Outcome}
 use Rattle.client_desk.specs.declared.outcomes.Outcome.TheVariants as outcome
 use Rattle.host_places.specs.Asking.{◌>>=◌, or_bad_uuid, text_said, uuid_in, uuid_said}
@@ -42,7 +42,7 @@ IsBelow z = (k : ℕ) × (z ≡ negsuc k) × (k < 200)
 refusal_below : (e : Refusal) → IsBelow (refusal_number e)
 refusal_below e = (refusal_place e, refl, omega (arith, refusal_place_low e))
 
-fault_place_low : (e : Fault) → fault_place e < 200
+fault_place_low : (e : CallFault) → fault_place e < 200
 -- by tools/refusals: low cases of faults
 fault_place_low fault.NotUtf8 = omega arith
 fault_place_low fault.BadUuid = omega arith
@@ -60,7 +60,7 @@ fault_place_low fault.NotRead = omega arith
 
 -- tools/refusals: end
 
-fault_below : (e : Fault) → IsBelow (fault_number e)
+fault_below : (e : CallFault) → IsBelow (fault_number e)
 fault_below e = (fault_place e, refl, fault_place_low e)
 
 pub no_below : (e : Outcome) → IsNo e → IsBelow (outcome_number e)

@@ -9,7 +9,7 @@ use mir.Val.{of_z, to_z}
 use Rattle.rebase.specs.Clients.{Grouped}
 use Rattle.rebase.specs.Configs.{Layout}
 use Rattle.client_desk.specs.Numbers.{outcome_number}
-use Rattle.host_places.specs.Opening.{IsNew, layout_said}
+use Rattle.host_places.specs.Opening.{IsFreshPlace, layout_said}
 use Rattle.host_places.specs.Desks.{DeskState}
 use Rattle.client_desk.specs.Places.{PlaceState}
 use Rattle.client_desk.specs.declared.outcomes.Outcome.TheVariants.{Refused}
@@ -17,12 +17,12 @@ use Rattle.group_history.specs.declared.refusals.Refusal.TheVariants.{NoMemory}
 use Rattle.giqaymu_c.proofs.Cases.{below_or_not}
 use Rattle.giqaymu_c.specs.declared.handle.Handle.{Handle}
 use Rattle.giqaymu_c.specs.declared.jobs.Grounds.{Grounds}
-use Rattle.giqaymu_c.specs.declared.jobs.Reply.{Reply}
+use Rattle.giqaymu_c.specs.declared.jobs.JobReply.{JobReply}
 use Rattle.giqaymu_c.proofs.Numbers.{Fine, HasSeats, IsBelow, below_bits, below_kept, below_zero, layout_fine, no_below}
 use Rattle.giqaymu_c.proofs.Numbers.{opening_no}
-use Rattle.giqaymu_c.specs.Exports.{AreNew, AreOpenedFor, Terms, IsGivenOut, IsNewPlace}
+use Rattle.giqaymu_c.specs.Exports.{AreNewHandles, AreOpenedFor, Terms, IsGivenOut, IsNewPlace}
 use Rattle.giqaymu_c.specs.Exports.{IsOpeningFault}
-use Rattle.giqaymu_c.specs.Jobs.{HasOpened, Opens, OpensAll, asks_meant, rules_given}
+use Rattle.giqaymu_c.specs.Jobs.{HasOpened, OpensPlaces, OpensAll, asks_meant, rules_given}
 use Rattle.giqaymu_c.specs.Own.{Run}
 use Rattle.giqaymu_c.specs.Spots.{SpotState}
 
@@ -63,7 +63,7 @@ fault_kept grounds z (e, is, why) =
 
 -- none was opened
 pub opening_refused : (grounds : Grounds) (z : ℤ) (at : Option SpotState)
-    → (reply : Reply) × (z ≡ reply.number) × HasOpened grounds reply at → (to_z w32 (of_z w32 z) ≡ pos 0 → ⊥)
+    → (reply : JobReply) × (z ≡ reply.number) × HasOpened grounds reply at → (to_z w32 (of_z w32 z) ≡ pos 0 → ⊥)
     → IsOpeningFault grounds (to_z w32 (of_z w32 z))
 opening_refused grounds z (Some spot) (reply, is, has) other = absurd (other (zero_kept z (is ∙ has.0.0.number)))
 opening_refused grounds z None (reply, is, (e, told, why)) other =
@@ -85,8 +85,8 @@ first_new : (grounds : Grounds) (terms : Terms) (n : ℕ) (first : Handle) (spot
     → grounds.with.places ≡ n → IsOn terms first → first.spot ≡ Some spot → (o : OpensAll grounds spot)
     → IsNewPlace o.opened.group o.opened.commit terms (n - 1) first
 first_new grounds terms n first spot places same there o =
-    let Fresh : DeskState → Type 0 = λ d. IsNew o.opened.group o.opened.commit d.place in
-    let all = unmap (IsNew o.opened.group o.opened.commit) (spot.spare ++ spot.desk ∷ []) o.opened.all in
+    let Fresh : DeskState → Type 0 = λ d. IsFreshPlace o.opened.group o.opened.commit d.place in
+    let all = unmap (IsFreshPlace o.opened.group o.opened.commit) (spot.spare ++ spot.desk ∷ []) o.opened.all in
     let parts = All-pop Fresh (spot.spare ++ spot.desk ∷ []) spot.spare (Some spot.desk) refl all in
     let w = grounds.with in
     let seats : HasSeats w.places o.layout = subst (Fine (HasSeats w.places)) o.said
@@ -106,7 +106,7 @@ first_new grounds terms n first spot places same there o =
     }
 
 each_new : (group : Grouped) (commit : ℕ) (terms : Terms) (n : ℕ) (places : List Handle) (last : Handle) → 0 < n
-    → length places ≡ n → IsNewPlace group commit terms 0 last → AreNew group commit terms n places
+    → length places ≡ n → IsNewPlace group commit terms 0 last → AreNewHandles group commit terms n places
     → (i : ℕ) → i < length (slice_set places 0 last) → (d : Handle)
     → IsNewPlace group commit terms 0 (slice_index_or (slice_set places 0 last) i d)
 each_new group commit terms n places last some count is are zero low d =
@@ -133,7 +133,7 @@ record First (grounds : Grounds) (own : List Run) (n : ℕ) (first : Handle) : T
   new : IsNewPlace group commit (terms_of grounds own) (n - 1) first
 
 first_of : (grounds : Grounds) (own : List Run) (n : ℕ) (first : Handle) (spot : SpotState) → grounds.with.places ≡ n
-    → IsOn (terms_of grounds own) first → first.spot ≡ Some spot → Opens grounds spot → First grounds own n first
+    → IsOn (terms_of grounds own) first → first.spot ≡ Some spot → OpensPlaces grounds spot → First grounds own n first
 first_of grounds own n first spot room same there (o, rules, known) = record {
   layout = o.layout;
   said = o.said;
@@ -148,7 +148,7 @@ first_of grounds own n first spot room same there (o, rules, known) = record {
 
 first_opened : (grounds : Grounds) (own : List Run) (n : ℕ) (first : Handle) (z : ℤ) → grounds.with.places ≡ n
     → IsOn (terms_of grounds own) first
-    → (reply : Reply) × (z ≡ reply.number) × HasOpened grounds reply first.spot → of_z w32 z ≡ 0
+    → (reply : JobReply) × (z ≡ reply.number) × HasOpened grounds reply first.spot → of_z w32 z ≡ 0
     → First grounds own n first
 first_opened grounds own n first z room same (reply, told, has) done = by_cases first.spot refl has where
   by_cases : (at : Option SpotState) → first.spot ≡ at → HasOpened grounds reply at → First grounds own n first
@@ -161,7 +161,7 @@ first_opened grounds own n first z room same (reply, told, has) done = by_cases 
 pub opened_all : (grounds : Grounds) (own : List Run) (n : ℕ) (first last put : Handle) (z given : ℤ)
     (places : List Handle) → 0 < n → grounds.with.places ≡ n → length places ≡ n → put ≡ last
     → IsOn (terms_of grounds own) first
-    → (reply : Reply) × (z ≡ reply.number) × HasOpened grounds reply first.spot → of_z w32 z ≡ 0
+    → (reply : JobReply) × (z ≡ reply.number) × HasOpened grounds reply first.spot → of_z w32 z ≡ 0
     → IsGivenOut n first last given places → to_z w32 (of_z w32 given) ≡ pos 0
     → AreOpenedFor grounds own (slice_set places 0 put)
 opened_all grounds own n first last put z given places some room count is same opened done out nought =
@@ -169,7 +169,7 @@ opened_all grounds own n first last put z given places some room count is same o
     subst (λ h. AreOpenedFor grounds own (slice_set places 0 h)) (sym is) (by_cases f (out _ _ _ f.new)) where
       by_cases : (f : First grounds own n first) → ((given ≡ pos 0)
           × IsNewPlace f.group f.commit (terms_of grounds own) 0 last
-          × AreNew f.group f.commit (terms_of grounds own) n places)
+          × AreNewHandles f.group f.commit (terms_of grounds own) n places)
           ⊎ (given ≡ outcome_number (Refused NoMemory)) → AreOpenedFor grounds own (slice_set places 0 last)
       by_cases f (inr lack) =
           let at : IsBelow given = (0, lack, omega arith) in
@@ -191,7 +191,7 @@ opened_all grounds own n first last put z given places some room count is same o
 -- or memory was refused
 pub giving_refused : (grounds : Grounds) (own : List Run) (n : ℕ) (first last : Handle) (z given : ℤ)
     (places : List Handle) → grounds.with.places ≡ n → IsOn (terms_of grounds own) first
-    → (reply : Reply) × (z ≡ reply.number) × HasOpened grounds reply first.spot → of_z w32 z ≡ 0
+    → (reply : JobReply) × (z ≡ reply.number) × HasOpened grounds reply first.spot → of_z w32 z ≡ 0
     → IsGivenOut n first last given places → (to_z w32 (of_z w32 given) ≡ pos 0 → ⊥)
     → IsOpeningFault grounds (to_z w32 (of_z w32 given))
 giving_refused grounds own n first last z given places room same opened done out other =

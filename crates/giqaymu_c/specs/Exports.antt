@@ -4,12 +4,12 @@ use Rattle.std.specs.Prelude.{slice_index_or, Option, Some, Ok, IsOk}
 use Rattle.std.specs.List.{All}
 use Rattle.group_history.specs.declared.refusals.Refusal.TheVariants.{NoMemory}
 use Rattle.group_history.specs.Map.{Bytes}
-use Rattle.client_desk.specs.declared.faults.Fault.TheVariants.{OutOfRange}
+use Rattle.client_desk.specs.declared.faults.CallFault.TheVariants.{OutOfRange}
 use Rattle.client_desk.specs.declared.outcomes.Outcome.{Outcome}
 use Rattle.client_desk.specs.declared.outcomes.Outcome.TheVariants.{Faulty, Refused}
 use Rattle.host_places.specs.Mutators.{Meant}
 use Rattle.client_desk.specs.Numbers.{outcome_number}
-use Rattle.host_places.specs.Opening.{IsNew, layout_said}
+use Rattle.host_places.specs.Opening.{IsFreshPlace, layout_said}
 use Rattle.rebase.specs.Clients.{Grouped}
 use Rattle.rebase.specs.Configs.{Layout}
 use Rattle.rule_mutators.specs.Faults.{fault_told, laid_over}
@@ -17,13 +17,13 @@ use Rattle.giqaymu_c.specs.declared.exports.Answer.{Answer}
 use Rattle.giqaymu_c.specs.declared.handle.Handle.{Handle}
 use Rattle.giqaymu_c.specs.declared.jobs.Grounds.{Grounds}
 use Rattle.host_places.specs.declared.numbered.Numbered.{Numbered}
-use Rattle.giqaymu_c.specs.declared.jobs.Reply.{Reply}
+use Rattle.giqaymu_c.specs.declared.jobs.JobReply.{JobReply}
 use Rattle.giqaymu_c.specs.Jobs.{HasCalled, IsOpeningRefusal, asks_meant, rules_given}
 use Rattle.giqaymu_c.specs.Own.{Run}
 use Rattle.giqaymu_c.specs.Spots.{SpotState}
 
 -- the number that is answered and what is written to `out` are those of a reply
-pub record IsTold (reply : Reply) (number : ℤ) (out : Answer) : Type 0 where
+pub record IsTold (reply : JobReply) (number : ℤ) (out : Answer) : Type 0 where
   pub number_is : number ≡ reply.number
   pub value_is : out.number ≡ reply.value
   pub code_is : out.code ≡ reply.code
@@ -43,7 +43,7 @@ pub record IsCalled (meant : Meant) (what m n : ℕ) (a b : Bytes) (before : Opt
     (after : Option SpotState) : Type 0 where
   pub call : Numbered
   pub asked : IsNumbered call what m n a b
-  pub reply : Reply
+  pub reply : JobReply
   pub told : IsTold reply number out
   pub called : HasCalled meant call before reply after
 
@@ -68,20 +68,20 @@ pub record IsNewPlace (group : Grouped) (commit : ℕ) (terms : Terms) (spare : 
   pub own_is : h.own ≡ terms.own
   pub spot : SpotState
   pub there : h.spot ≡ Some spot
-  pub new : IsNew group commit spot.desk.place
+  pub new : IsFreshPlace group commit spot.desk.place
   pub count : length spot.spare ≡ spare
-  pub all : All (λ d. IsNew group commit d.place) spot.spare
+  pub all : All (λ d. IsFreshPlace group commit d.place) spot.spare
 
 -- the places from the second one to the n-th
-abbrev pub AreNew : Grouped → ℕ → Terms → ℕ → List Handle → Type 0
-AreNew group commit terms n places =
+abbrev pub AreNewHandles : Grouped → ℕ → Terms → ℕ → List Handle → Type 0
+AreNewHandles group commit terms n places =
     (i : ℕ) → 0 < i → i < n → (d : Handle) → IsNewPlace group commit terms 0 (slice_index_or places i d)
 
 -- Where the first place had all of a new group, each has one of them, or memory was refused.
 abbrev pub IsGivenOut : ℕ → Handle → Handle → ℤ → List Handle → Type 0
 IsGivenOut n first last number places = (group : Grouped) (commit : ℕ) (terms : Terms)
     → IsNewPlace group commit terms (n - 1) first
-    → ((number ≡ pos 0) × IsNewPlace group commit terms 0 last × AreNew group commit terms n places)
+    → ((number ≡ pos 0) × IsNewPlace group commit terms 0 last × AreNewHandles group commit terms n places)
     ⊎ (number ≡ outcome_number (Refused NoMemory))
 
 -- Each is a place of one new group with this layout: nobody sits there, and its seat has seen the opening of the
@@ -114,8 +114,8 @@ pub record IsOf (grounds : Grounds) (id profile schema rules : Bytes) (slots own
   pub slots_are : grounds.with.slots ≡ slots
   pub own_is : grounds.own ≡ own
 
-abbrev pub IsOpened : Bytes → Bytes → Bytes → Bytes → ℕ → ℕ → List Run → List Handle → Type 0
-IsOpened id profile schema rules slots own means places = (grounds : Grounds)
+abbrev pub IsOpenedWith : Bytes → Bytes → Bytes → Bytes → ℕ → ℕ → List Run → List Handle → Type 0
+IsOpenedWith id profile schema rules slots own means places = (grounds : Grounds)
     × IsOf grounds id profile schema rules slots own × (grounds.with.places ≡ length places)
     × AreOpenedFor grounds means places
 

@@ -8,12 +8,12 @@ use Rattle.rebase.specs.Configs.{Layout}
 use Rattle.rule_mutators.specs.declared.faults.RuleFault.{RuleFault}
 use Rattle.rule_mutators.specs.Reading.{rules_or_none}
 use Rattle.rule_mutators.specs.Rules.{Rules}
-use Rattle.client_desk.specs.declared.faults.Fault.TheVariants as fault
+use Rattle.client_desk.specs.declared.faults.CallFault.TheVariants as fault
 use Rattle.client_desk.specs.declared.outcomes.Outcome.{Outcome}
 use Rattle.client_desk.specs.declared.outcomes.Outcome.TheVariants.{Done, Faulty, Refused}
 use Rattle.host_places.specs.Numbers.{IsRunSaid, MayAnswerNumbers, number_beside}
 use Rattle.client_desk.specs.Numbers.{outcome_code, outcome_number, outcome_value}
-use Rattle.host_places.specs.Opening.{AreOpened, IsWant, layout_said}
+use Rattle.host_places.specs.Opening.{AreOpened, IsWantToOpen, layout_said}
 use Rattle.host_places.specs.Asking.{ran_said}
 use Rattle.host_places.specs.Mutators.{Meant, has_of, means_of}
 use Rattle.host_places.specs.Desks.{DeskState}
@@ -23,7 +23,7 @@ use Rattle.giqaymu_c.specs.declared.jobs.Grounds.{Grounds}
 use Rattle.giqaymu_c.specs.declared.jobs.Job.{Job}
 use Rattle.giqaymu_c.specs.declared.jobs.Job.TheVariants as job
 use Rattle.host_places.specs.declared.numbered.Numbered.{Numbered}
-use Rattle.giqaymu_c.specs.declared.jobs.Reply.{Reply}
+use Rattle.giqaymu_c.specs.declared.jobs.JobReply.{JobReply}
 use Rattle.giqaymu_c.specs.Own.{Run, runs_mean}
 use Rattle.giqaymu_c.specs.Spots.{SpotState, places_of}
 
@@ -92,17 +92,17 @@ IsFit other meant spot = ⊤
 -- ---- replies
 
 -- it tells this
-pub record Replies (outcome : Outcome) (reply : Reply) : Type 0 where
+pub record FillsReply (outcome : Outcome) (reply : JobReply) : Type 0 where
   pub number : reply.number ≡ outcome_number outcome
   pub value : reply.value ≡ outcome_value outcome
   pub code : reply.code ≡ outcome_code outcome
 
 -- without bytes
-abbrev pub RepliesBare : Outcome → Reply → Type 0
-RepliesBare outcome reply = Replies outcome reply × (reply.len ≡ 0)
+abbrev pub RepliesBare : Outcome → JobReply → Type 0
+RepliesBare outcome reply = FillsReply outcome reply × (reply.len ≡ 0)
 
 -- what the call of this number came to, with the bytes that a desk has; of a query that was answered with its moment
-pub record RepliesAt (what : ℕ) (outcome : Outcome) (desk : DeskState) (reply : Reply) : Type 0 where
+pub record RepliesAt (what : ℕ) (outcome : Outcome) (desk : DeskState) (reply : JobReply) : Type 0 where
   pub number : reply.number ≡ outcome_number outcome
   pub value : reply.value ≡ number_beside what outcome desk.place.moment
   pub code : reply.code ≡ outcome_code outcome
@@ -119,12 +119,12 @@ pub record OpensAll (grounds : Grounds) (spot : SpotState) : Type 0 where
   pub opened : AreOpened layout (places_of spot)
 
 -- by its rules, and mutators of the host's own or none
-abbrev pub Opens : Grounds → SpotState → Type 0
-Opens grounds spot = OpensAll grounds spot × IsOk (rules_given grounds.rules.now) × (grounds.own < 2)
+abbrev pub OpensPlaces : Grounds → SpotState → Type 0
+OpensPlaces grounds spot = OpensAll grounds spot × IsOk (rules_given grounds.rules.now) × (grounds.own < 2)
 
 -- it is refused for want of something, or since its ID, a text or a number says nothing
 abbrev pub IsOpeningWant : Grounds → Outcome → Type 0
-IsOpeningWant grounds e = IsWant e
+IsOpeningWant grounds e = IsWantToOpen e
     ⊎ (layout_said grounds.with.id.now grounds.with.profile.now grounds.with.schema.now grounds.with.slots
     grounds.with.places ≡ Err e)
 
@@ -135,27 +135,27 @@ IsMutatorsRefusal grounds e = IsRulesRefusal grounds.rules.now e ⊎ ((1 < groun
 abbrev pub IsOpeningRefusal : Grounds → Outcome → Type 0
 IsOpeningRefusal grounds e = IsOpeningWant grounds e ⊎ IsMutatorsRefusal grounds e
 
-abbrev pub HasOpened : Grounds → Reply → Option SpotState → Type 0
-HasOpened grounds reply (Some spot) = RepliesBare Done reply × Opens grounds spot
+abbrev pub HasOpened : Grounds → JobReply → Option SpotState → Type 0
+HasOpened grounds reply (Some spot) = RepliesBare Done reply × OpensPlaces grounds spot
 HasOpened grounds reply None = (e : Outcome) × RepliesBare e reply × IsOpeningRefusal grounds e
 
 -- ---- calls
 
 -- the call is answered at the desk, and the reply says where the bytes lie
-pub record CallsAt (meant : Meant) (call : Numbered) (before : PlaceState) (reply : Reply)
+pub record CallsAt (meant : Meant) (call : Numbered) (before : PlaceState) (reply : JobReply)
     (after : DeskState) : Type 0 where
   pub outcome : Outcome
   pub answered : MayAnswerNumbers (has_of meant) (means_of meant) call before
       (told outcome after.bytes) after.place
   pub told : RepliesAt call.what outcome after reply
 
-pub record Calls (meant : Meant) (call : Numbered) (before : SpotState) (reply : Reply)
+pub record Calls (meant : Meant) (call : Numbered) (before : SpotState) (reply : JobReply)
     (after : SpotState) : Type 0 where
   pub desk : DeskState
   pub called : CallsAt meant call before.desk.place reply desk
   pub left : after ≡ record before { desk = desk }
 
-abbrev pub HasCalled : Meant → Numbered → Option SpotState → Reply → Option SpotState → Type 0
+abbrev pub HasCalled : Meant → Numbered → Option SpotState → JobReply → Option SpotState → Type 0
 HasCalled meant call None reply after = RepliesBare (Faulty fault.NoPlace) reply × (after ≡ None)
 HasCalled meant call (Some spot) reply after = (new : SpotState) × Calls meant call spot reply new × (after ≡ Some new)
 
@@ -163,19 +163,19 @@ HasCalled meant call (Some spot) reply after = (new : SpotState) × Calls meant 
 
 -- One of the desks that were not given out yet is given to another place; or none, since there is none, or since memory
 -- was refused.
-abbrev pub Gives : SpotState → Reply → SpotState → Option SpotState → Type 0
+abbrev pub Gives : SpotState → JobReply → SpotState → Option SpotState → Type 0
 Gives before reply after None = (after.desk ≡ before.desk)
     × (RepliesBare (Refused NoMemory) reply ⊎ (RepliesBare (Refused NoSeat) reply × (before.spare ≡ [])))
 Gives before reply after (Some spot) = RepliesBare Done reply × (after.desk ≡ before.desk)
     × (before.spare ≡ after.spare ++ spot.desk ∷ []) × (spot.spare ≡ [])
 
-abbrev pub HasGiven : Option SpotState → Reply → Option SpotState → Option SpotState → Type 0
+abbrev pub HasGiven : Option SpotState → JobReply → Option SpotState → Option SpotState → Type 0
 HasGiven None reply after given = RepliesBare (Faulty fault.NoPlace) reply × (after ≡ None) × (given ≡ None)
 HasGiven (Some spot) reply after given = (new : SpotState) × (after ≡ Some new) × Gives spot reply new given
 
 -- ---- any job
 
-abbrev pub Acts : Job → Meant → Option SpotState → Reply → Option SpotState → Option SpotState → Type 0
+abbrev pub Acts : Job → Meant → Option SpotState → JobReply → Option SpotState → Option SpotState → Type 0
 Acts (job.Open grounds) meant before reply after given = HasOpened grounds reply after × (given ≡ None)
 Acts job.Give meant before reply after given = HasGiven before reply after given
 Acts (job.Call call) meant before reply after given = HasCalled meant call before reply after × (given ≡ None)

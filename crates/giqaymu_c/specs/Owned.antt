@@ -5,7 +5,7 @@ use Rattle.std.specs.contracts.marker.Brand as Brand
 use Rattle.std.specs.Global.{Global}
 use Rattle.std.specs.contracts.impls.GlobalAllocator.TheImpl.{ghosts}
 use Rattle.group_history.specs.Map.{Bytes}
-use Rattle.giqaymu_c.specs.contracts.spots.Spot as Spot
+use Rattle.giqaymu_c.specs.contracts.spots.OpenPlace as OpenPlace
 use Rattle.giqaymu_c.specs.Jobs.{meant_at}
 use Rattle.giqaymu_c.specs.Own.{Run}
 use Rattle.giqaymu_c.specs.Spots.{SpotState}
@@ -33,7 +33,7 @@ marker = arg (ty_struct [] tnil) no Brand.the_row
 
 -- a spot of a group whose rules this text says, and whose host's own mutators have these runs
 abbrev pub spot_row : Bytes → Bool → List Run → RattleType
-spot_row text asks own = Spot.the_row (param 0 marker) (record { meant = meant_at text asks own })
+spot_row text asks own = OpenPlace.the_row (param 0 marker) (record { meant = meant_at text asks own })
 
 -- what a place has
 abbrev pub place_owns : Bytes → Bool → List Run → ℕ → Ptr → Option SpotState → Fml

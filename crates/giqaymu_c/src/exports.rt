@@ -2,14 +2,14 @@
 ghost use Rattle.std.specs.Prelude.{◌≡◌, ◌≢◌, ◌<◌, IfSome, None, length, pos, slice_get};
 ghost use Rattle.std.specs.List.{All};
 ghost use Rattle.giqaymu_c.specs.Jobs.{Acts, HasOpened, IsFit, IsToldByNumbers, asks_meant, meant_at};
-ghost use Rattle.giqaymu_c.specs.Exports.{AreOpenedFor, IsCalled, IsGivenOut, IsLike, IsOpened};
+ghost use Rattle.giqaymu_c.specs.Exports.{AreOpenedFor, IsCalled, IsGivenOut, IsLike, IsOpenedWith};
 ghost use Rattle.giqaymu_c.specs.Exports.{IsOpeningFault, IsRefusedFor, TellsFault};
-ghost use Rattle.giqaymu_c.specs.declared.jobs.Reply.{Reply as HostReply};
+ghost use Rattle.giqaymu_c.specs.declared.jobs.JobReply.{JobReply as HostReply};
 
 use crate::handle::{Handle, act};
-use crate::jobs::{Grounds, Job, Reply};
+use crate::jobs::{Grounds, Job, JobReply};
 use group_history::Refusal;
-use host_places::{Fault, Numbered, Opening, Outcome};
+use host_places::{CallFault, GroupOpening, Numbered, Outcome};
 use rule_mutators::tell_fault;
 use std::alloc::Global;
 
@@ -36,7 +36,7 @@ fn taken(place: &mut Handle) -> Handle
 }
 
 // Does a job at a place, and answers the place that is given.
-fn act_at(alloc: Global, place: &mut Handle, job: Job<'_>) -> (Handle, Reply)
+fn act_at(alloc: Global, place: &mut Handle, job: Job<'_>) -> (Handle, JobReply)
     requires { IsFit job (meant_at place.old.text place.old.asks place.old.own) place.old.spot }
     ensures { IsLike place.old place.new × IsLike place.old result.0
         × Acts job.entry (meant_at place.old.text place.old.asks place.old.own) place.old.spot result.1 place.new.spot
@@ -178,16 +178,16 @@ pub extern "C" fn giq_open(
 ) -> i32
     ensures count { length places.new ≡ length places.old }
     ensures opened { result ≡ pos 0 → IfSome (slice_get places.old 0)
-        (λ h. IsOpened id.now profile.now schema.now rules.now slots own h.own places.new) }
+        (λ h. IsOpenedWith id.now profile.now schema.now rules.now slots own h.own places.new) }
     ensures refused { result ≢ pos 0 → All (λ h. h.spot ≡ None) places.new }
     ensures why { result ≢ pos 0 → IsRefusedFor id.now profile.now schema.now rules.now slots own (length places.old)
         result }
 {
     if places.len() < 1 || places.len() > 256 {
         close_all(alloc, places);
-        return Outcome::Faulty(Fault::OutOfRange).number();
+        return Outcome::Faulty(CallFault::OutOfRange).number();
     }
-    let with = Opening {
+    let with = GroupOpening {
         id,
         profile,
         schema,

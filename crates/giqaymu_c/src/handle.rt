@@ -6,8 +6,8 @@ ghost use Rattle.giqaymu_c.specs.Spots.{SpotState};
 ghost use Rattle.giqaymu_c.specs.Jobs.{Acts, IsFit, asks_for, meant_at, text_for};
 
 use crate::held::Held;
-use crate::jobs::{Job, Reply};
-use crate::spots::{Spot, act_held};
+use crate::jobs::{Job, JobReply};
+use crate::spots::{OpenPlace, act_held};
 use std::alloc::Global;
 use std::marker::{Brand, Model};
 
@@ -58,7 +58,7 @@ impl Handle {
 ///
 /// This and what it calls is inlined, so that a job is not copied on its way: a call takes some 9 ns less.
 #[inline(always)]
-pub(crate) fn act(handle: Handle, alloc: Global, job: Job<'_>) -> (Handle, Handle, Reply)
+pub(crate) fn act(handle: Handle, alloc: Global, job: Job<'_>) -> (Handle, Handle, JobReply)
     requires { IsFit job (meant_at handle.text handle.asks handle.own) handle.spot }
     ensures { ((result.0.text ≡ handle.text) × (result.0.asks ≡ handle.asks) × (result.0.own ≡ handle.own))
         × ((result.1.text ≡ handle.text) × (result.1.asks ≡ handle.asks) × (result.1.own ≡ handle.own))
@@ -67,7 +67,7 @@ pub(crate) fn act(handle: Handle, alloc: Global, job: Job<'_>) -> (Handle, Handl
 {
     let Handle { at, is_open } = handle;
     let held = Held {
-        at: at as *mut Spot<Brand>,
+        at: at as *mut OpenPlace<Brand>,
         is_open,
     };
     let (first, second, reply) = act_held::<Brand>(held, alloc, job);

@@ -3,25 +3,26 @@ ghost use Rattle.std.specs.Prelude.{◌≡◌, ◌++◌, ◌∷◌, ◌<◌, [],
 ghost use Rattle.rule_mutators.specs.Views.{rules_of};
 ghost use Rattle.giqaymu_c.specs.Inside.{IsBoxed};
 ghost use Rattle.giqaymu_c.specs.Jobs.{Acts, Calls, Gives, HasCalled, HasGiven, HasOpened, IsFit, IsMeantBy};
-ghost use Rattle.giqaymu_c.specs.Jobs.{IsOpeningRefusal, IsRulesRefusal, IsToldAsMeant, Opens, RepliesAt, rules_given};
+ghost use Rattle.giqaymu_c.specs.Jobs.{IsOpeningRefusal, IsRulesRefusal, IsToldAsMeant};
+ghost use Rattle.giqaymu_c.specs.Jobs.{OpensPlaces, RepliesAt, rules_given};
 
 use crate::held::Held;
-use crate::jobs::{Grounds, Job, Reply};
+use crate::jobs::{Grounds, Job, JobReply};
 use group_history::Refusal;
 use host_places::{
-    Desk, Fault, HostMutators, Numbered, Outcome, Picked, close_places, open_places,
+    CallFault, Desk, HostMutators, NamesMutators, Numbered, Outcome, close_places, open_places,
 };
 use rule_mutators::{RuleFault, Rules};
 use std::alloc::Global;
 use std::marker::Model;
 
 /// What a place of a host has: a desk, and the desks of its group that are not given out yet.
-pub(crate) struct Spot<B: Picked> {
+pub(crate) struct OpenPlace<B: NamesMutators> {
     desk: Desk<HostMutators<B>>,
     spare: Vec<Desk<HostMutators<B>>>,
 }
 
-impl<B: Picked> Model for Spot<B> {
+impl<B: NamesMutators> Model for OpenPlace<B> {
     ghost use Rattle.giqaymu_c.specs.Codes.{state_coded};
     ghost use Rattle.giqaymu_c.specs.Spots.{SpotState};
 
@@ -33,9 +34,9 @@ impl<B: Picked> Model for Spot<B> {
 }
 
 // A box can be made a pointer only where its value may be dropped. A desk can't be: this closes each.
-impl<B: Picked> Drop for Spot<B> {
+impl<B: NamesMutators> Drop for OpenPlace<B> {
     fn drop(self) {
-        let Spot { desk, spare } = self;
+        let OpenPlace { desk, spare } = self;
         drop(desk.close());
         close_places(spare);
     }
@@ -49,26 +50,26 @@ fn rules_of_text(alloc: Global, text: &[u8]) -> Result<Rules, Outcome>
     match Rules::read_or_none(alloc, text) {
         Ok(rules) => Ok(rules),
         Err(RuleFault::NoMemory) => Err(Outcome::Refused(Refusal::NoMemory)),
-        Err(_) => Err(Outcome::Faulty(Fault::BadRules)),
+        Err(_) => Err(Outcome::Faulty(CallFault::BadRules)),
     }
 }
 
-impl<B: Picked> Spot<B> {
+impl<B: NamesMutators> OpenPlace<B> {
     // The desks of a group that was opened.
-    fn of(desks: Vec<Desk<HostMutators<B>>>) -> Spot<B>
+    fn of(desks: Vec<Desk<HostMutators<B>>>) -> OpenPlace<B>
         requires { 0 < length desks.items }
         ensures { desks.items ≡ result.spare ++ result.desk ∷ [] }
     {
         let mut spare = desks;
         let desk = spare.pop().unwrap();
-        Spot { desk, spare }
+        OpenPlace { desk, spare }
     }
 
     // What the call of this number came to, and where the bytes lie that it told.
-    fn reply(&self, what: u32, outcome: Outcome) -> Reply
+    fn reply(&self, what: u32, outcome: Outcome) -> JobReply
         ensures { RepliesAt what outcome self.now.desk result }
     {
-        Reply {
+        JobReply {
             number: outcome.number(),
             value: self.desk.number_beside(what, outcome),
             code: outcome.code(),
@@ -78,14 +79,14 @@ impl<B: Picked> Spot<B> {
     }
 
     // A spot of the next desk that isn't given out yet.
-    fn next(&mut self, alloc: Global) -> Option<Spot<B>>
+    fn next(&mut self, alloc: Global) -> Option<OpenPlace<B>>
         ensures desk { self.new.desk ≡ self.old.desk }
         ensures some { IfSome result (λ spot. (self.old.spare ≡ self.new.spare ++ spot.desk ∷ [])
             × (spot.spare ≡ [])) }
         ensures none { IfNone result ((self.old.spare ≡ []) × (self.new.spare ≡ [])) }
     {
         match self.spare.pop() {
-            Some(desk) => Some(Spot {
+            Some(desk) => Some(OpenPlace {
                 desk,
                 spare: Vec::new(alloc),
             }),
@@ -94,44 +95,47 @@ impl<B: Picked> Spot<B> {
     }
 
     // In a box.
-    fn boxed(self, alloc: Global) -> (Held<Spot<B>>, Reply)
+    fn boxed(self, alloc: Global) -> (Held<OpenPlace<B>>, JobReply)
         ensures { IsBoxed self result.1 result.0.value }
     {
         match Box::new(alloc, self) {
-            Ok(spot) => (Held::of(spot), Reply::bare(Outcome::Done)),
+            Ok(spot) => (Held::of(spot), JobReply::bare(Outcome::Done)),
             Err(_) => (
                 Held::none(),
-                Reply::bare(Outcome::Refused(Refusal::NoMemory)),
+                JobReply::bare(Outcome::Refused(Refusal::NoMemory)),
             ),
         }
     }
 
-    fn give(&mut self, alloc: Global) -> (Held<Spot<B>>, Reply)
+    fn give(&mut self, alloc: Global) -> (Held<OpenPlace<B>>, JobReply)
         ensures { Gives self.old result.1 self.new result.0.value }
     {
         match self.next(alloc) {
             Some(spot) => spot.boxed(alloc),
-            None => (Held::none(), Reply::bare(Outcome::Refused(Refusal::NoSeat))),
+            None => (
+                Held::none(),
+                JobReply::bare(Outcome::Refused(Refusal::NoSeat)),
+            ),
         }
     }
 }
 
-impl<B: Picked + Sync> Spot<B> {
-    fn open(alloc: Global, grounds: Grounds<'_>) -> Result<Spot<B>, Outcome>
+impl<B: NamesMutators + Sync> OpenPlace<B> {
+    fn open(alloc: Global, grounds: Grounds<'_>) -> Result<OpenPlace<B>, Outcome>
         requires { IsMeantBy grounds B.meant }
-        ensures opened { IfOk result (λ spot. Opens grounds.entry spot) }
+        ensures opened { IfOk result (λ spot. OpensPlaces grounds.entry spot) }
         ensures err { IfErr result (IsOpeningRefusal grounds.entry) }
     {
         if grounds.own > 1 {
-            return Err(Outcome::Faulty(Fault::OutOfRange));
+            return Err(Outcome::Faulty(CallFault::OutOfRange));
         }
         let rules = rules_of_text(alloc, grounds.rules)?;
         let mutators = HostMutators::<B>::new(rules, grounds.own == 1);
         let desks = open_places(alloc, grounds.with, mutators)?;
-        Ok(Spot::of(desks))
+        Ok(OpenPlace::of(desks))
     }
 
-    fn call(&mut self, call: Numbered<'_>) -> Reply
+    fn call(&mut self, call: Numbered<'_>) -> JobReply
         requires { IsToldAsMeant B.meant call self.old }
         ensures { Calls B.meant call.entry self.old result self.new }
     {
@@ -140,39 +144,45 @@ impl<B: Picked + Sync> Spot<B> {
     }
 }
 
-fn open_held<B: Picked + Sync>(alloc: Global, grounds: Grounds<'_>) -> (Held<Spot<B>>, Reply)
+fn open_held<B: NamesMutators + Sync>(
+    alloc: Global,
+    grounds: Grounds<'_>,
+) -> (Held<OpenPlace<B>>, JobReply)
     requires { IsMeantBy grounds B.meant }
     ensures { HasOpened grounds.entry result.1 result.0.value }
 {
-    match Spot::<B>::open(alloc, grounds) {
+    match OpenPlace::<B>::open(alloc, grounds) {
         Ok(spot) => spot.boxed(alloc),
-        Err(outcome) => (Held::none(), Reply::bare(outcome)),
+        Err(outcome) => (Held::none(), JobReply::bare(outcome)),
     }
 }
 
-fn call_held<B: Picked + Sync>(
-    held: Held<Spot<B>>,
+fn call_held<B: NamesMutators + Sync>(
+    held: Held<OpenPlace<B>>,
     alloc: Global,
     call: Numbered<'_>,
-) -> (Held<Spot<B>>, Reply)
+) -> (Held<OpenPlace<B>>, JobReply)
     requires { IfSome held.value (IsToldAsMeant B.meant call) }
     ensures { HasCalled B.meant call.entry held.value result.1 result.0.value }
 {
     let Some(mut spot) = held.into_box(alloc) else {
-        return (Held::none(), Reply::bare(Outcome::Faulty(Fault::NoPlace)));
+        return (
+            Held::none(),
+            JobReply::bare(Outcome::Faulty(CallFault::NoPlace)),
+        );
     };
     let reply = spot.call(call);
     (Held::of(spot), reply)
 }
 
-fn give_held<B: Picked + Sync>(
-    held: Held<Spot<B>>,
+fn give_held<B: NamesMutators + Sync>(
+    held: Held<OpenPlace<B>>,
     alloc: Global,
-) -> (Held<Spot<B>>, Held<Spot<B>>, Reply)
+) -> (Held<OpenPlace<B>>, Held<OpenPlace<B>>, JobReply)
     ensures { HasGiven held.value result.2 result.0.value result.1.value }
 {
     let Some(mut spot) = held.into_box(alloc) else {
-        let reply = Reply::bare(Outcome::Faulty(Fault::NoPlace));
+        let reply = JobReply::bare(Outcome::Faulty(CallFault::NoPlace));
         return (Held::none(), Held::none(), reply);
     };
     let (given, reply) = spot.give(alloc);
@@ -181,11 +191,11 @@ fn give_held<B: Picked + Sync>(
 
 /// Does a job at a place. What comes second is the place that is given.
 #[inline(always)]
-pub(crate) fn act_held<B: Picked + Sync>(
-    held: Held<Spot<B>>,
+pub(crate) fn act_held<B: NamesMutators + Sync>(
+    held: Held<OpenPlace<B>>,
     alloc: Global,
     job: Job<'_>,
-) -> (Held<Spot<B>>, Held<Spot<B>>, Reply)
+) -> (Held<OpenPlace<B>>, Held<OpenPlace<B>>, JobReply)
     requires { IsFit job B.meant held.value }
     ensures { Acts job.entry B.meant held.value result.2 result.0.value result.1.value }
 {
@@ -202,7 +212,7 @@ pub(crate) fn act_held<B: Picked + Sync>(
         }
         Job::Close => {
             drop(held.into_box(alloc));
-            (Held::none(), Held::none(), Reply::bare(Outcome::Done))
+            (Held::none(), Held::none(), JobReply::bare(Outcome::Done))
         }
     }
 }

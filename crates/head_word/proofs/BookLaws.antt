@@ -17,7 +17,8 @@ use Rattle.group_history.proofs.Lists.{get_more}
 use Rattle.head_word.specs.declared.entry.DraftEntry.{DraftEntry}
 use Rattle.head_word.specs.declared.entry.Entry.{Entry}
 use Rattle.head_word.specs.declared.entry.Entry.TheVariants as v
-use Rattle.head_word.specs.Books.{AreRising, drafted_contents, drawn, last_move, moved_from, nowhere, numbered, record_of}
+use Rattle.head_word.specs.Books.{AreRising, drafted_contents, drawn, last_move, moved_from}
+use Rattle.head_word.specs.Books.{nowhere, numbered, record_of}
 use Rattle.head_word.specs.Laws.{IsDraftAt, BookLaws, moment}
 use Rattle.head_word.proofs.Beginnings.{prefix_one}
 use Rattle.head_word.proofs.Books.{drawn_more, length-drafted, moved_more, record_more, rising_behind}

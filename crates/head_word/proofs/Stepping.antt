@@ -37,7 +37,8 @@ use Rattle.head_word.specs.Tallies.{key_of, count}
 use Rattle.head_word.specs.Rules.{head_says, drafts_say, FitsOpened, Fits, IsKept}
 use Rattle.head_word.specs.Inside.Parts.{Trades}
 use Rattle.head_word.specs.Inside.Steps.{tells, answer, Counts, Exchanges, Opens}
-use Rattle.head_word.proofs.Books.{drawn_more, moved_more, record_more, rising_more, length-drafted, numbered_more, ordered_more}
+use Rattle.head_word.proofs.Books.{drawn_more, moved_more, record_more, rising_more}
+use Rattle.head_word.proofs.Books.{length-drafted, numbered_more, ordered_more}
 use Rattle.head_word.proofs.Books.{drafted_ordered, spells_more, starts_more, seats_more, seats_added, next_more}
 use Rattle.head_word.proofs.Counting.{count_more, count_other, count_starts}
 

@@ -183,8 +183,8 @@ abbrev pub AreAfter : ℕ → ℕ → List (Node Child) → Type 0
 AreAfter n place [] = Unit {0}
 AreAfter n place (c ∷ cs) = All (IsBefore n place) (children c) × AreAfter n (suc place) cs
 
--- By these contents the state of `new`, a later commit, is that of `base` after the change, which is accepted there; and
--- queries read at each of the two the view of its state.
+-- By these contents the state of `new`, a later commit, is that of `base` after the change, which is accepted there;
+-- and queries read at each of the two the view of its state.
 pub record IsChangeFrom (means : Meanings) (contents : Contents) (base new : Ref) (change : Change) : Type 0 where
   pub state : State
   pub later : stamp_of base < stamp_of new

@@ -5,7 +5,7 @@ use logbook::Plain;
 
 /// A look by a seat, or by none. It adds nothing, and asks as a draft of no nodes would.
 #[derive(Drop)]
-pub struct Look {
+pub struct LookAsk {
     pub by: Option<u64>,
 }
 
@@ -20,7 +20,7 @@ pub struct Wanted<'a> {
 
 /// The move that opens the book, to be added.
 #[derive(Drop)]
-pub struct Opening {
+pub struct OpeningMove {
     pub seats: u64,
     pub to: Ref,
 }
@@ -36,7 +36,7 @@ pub struct Proposed<'a> {
 /// What a seat asks for.
 pub struct Asks;
 
-impl Plain<Look, Entry, Answer> for Asks {
+impl Plain<LookAsk, Entry, Answer> for Asks {
     ghost use Rattle.std.specs.Prelude.{None, []};
     ghost use Rattle.head_word.specs.Books.{drafted};
 
@@ -54,7 +54,7 @@ impl<'a> Plain<Wanted<'a>, Entry, Answer> for Asks {
     ghost state = { λ w. None };
 }
 
-impl Plain<Opening, Entry, Answer> for Asks {
+impl Plain<OpeningMove, Entry, Answer> for Asks {
     ghost use Rattle.std.specs.Prelude.{None};
     ghost use Rattle.head_word.specs.Books.{opened};
 
@@ -75,7 +75,7 @@ impl<'a> Plain<Proposed<'a>, Entry, Answer> for Asks {
 /// A look that trades nothing, as its update has run already.
 pub struct Idle;
 
-impl Plain<Look, Entry, Answer> for Idle {
+impl Plain<LookAsk, Entry, Answer> for Idle {
     ghost use Rattle.std.specs.Prelude.{Some, []};
     ghost use Rattle.head_word.specs.Books.{drafted};
     ghost use Rattle.head_word.specs.Inside.Steps.{answer};

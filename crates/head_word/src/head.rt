@@ -25,11 +25,11 @@ ghost use Rattle.head_word.specs.Books.{last_move, next_stamp, drawn, drafted, m
 ghost use Rattle.head_word.specs.Books.{drafted_from};
 ghost use Rattle.head_word.specs.Marks.{own, others};
 
-use crate::asks::{Asks, Idle, Look, Wanted};
+use crate::asks::{Asks, Idle, LookAsk, Wanted};
 use crate::entry::{Answer, Entry};
 use crate::law::{CountsAtHead, Law, LooksAtHead, Nothing, Traded};
 use crate::lost::{Lost, Moved};
-use crate::mark::{Mark, Seat};
+use crate::mark::{Mark, MarkSeat};
 use crate::tally::Tally;
 use group_history::{Change, Means, Node, Ref, STAMPS};
 use logbook::{Offer, Word};
@@ -69,12 +69,12 @@ impl<M: Means> Head<M> {
     {
         match mark.seat.take() {
             Some(seat) => {
-                let Seat { number, tally } = seat;
-                let mut offer = tally.offered::<M, Look, Asks>(&Look { by: Some(number) });
+                let MarkSeat { number, tally } = seat;
+                let mut offer = tally.offered::<M, LookAsk, Asks>(&LookAsk { by: Some(number) });
                 let bits = self
                     .head_word
                     .load::<CountsAtHead<M>, Traded>(&mut mark.seen, &mut offer);
-                mark.seat = Some(Seat {
+                mark.seat = Some(MarkSeat {
                     number,
                     tally: Tally::regained(offer.into_gain()),
                 });
@@ -83,7 +83,7 @@ impl<M: Means> Head<M> {
             None => {
                 let mut offer: Offer<Entry, Answer, Law<M>, Nothing> = mark
                     .seen
-                    .plain::<Nothing, Look, Idle>(&Look { by: None });
+                    .plain::<Nothing, LookAsk, Idle>(&LookAsk { by: None });
                 Ref::from_bits(
                     self.head_word
                         .load::<LooksAtHead<M>, Nothing>(&mut mark.seen, &mut offer),
@@ -173,13 +173,13 @@ impl<M: Means> Head<M> {
             mark.seen.learn(&other.seen);
             return;
         };
-        let Seat { number, tally } = seat;
+        let MarkSeat { number, tally } = seat;
         mark.seen.learn(&other.seen);
-        let mut offer = tally.offered::<M, Look, Asks>(&Look { by: Some(number) });
+        let mut offer = tally.offered::<M, LookAsk, Asks>(&LookAsk { by: Some(number) });
         let _ = self
             .head_word
             .load::<CountsAtHead<M>, Traded>(&mut mark.seen, &mut offer);
-        mark.seat = Some(Seat {
+        mark.seat = Some(MarkSeat {
             number,
             tally: Tally::regained(offer.into_gain()),
         });

@@ -17,7 +17,7 @@ use std::marker::Model;
 
 /// A seat's number, and its tally.
 #[derive(Drop)]
-pub struct Seat {
+pub struct MarkSeat {
     pub(crate) number: u64,
     pub(crate) tally: Tally,
 }
@@ -63,7 +63,7 @@ impl<M: Means> Sight<M> {
 /// A beginning of the book that was seen, and a seat, where the mark has one.
 pub struct Mark<M: Means> {
     pub(crate) seen: Seen<Entry, Answer, Law<M>>,
-    pub(crate) seat: Option<Seat>,
+    pub(crate) seat: Option<MarkSeat>,
 }
 
 impl<M: Means> Drop for Mark<M> {

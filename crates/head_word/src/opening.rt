@@ -8,11 +8,11 @@ ghost use Rattle.head_word.specs.Books.{IsOpened, opening, opening_ref};
 ghost use Rattle.head_word.specs.Marks.{seated};
 ghost use Rattle.head_word.specs.Inside.Parts.{keys_of};
 
-use crate::asks::{Asks, Opening};
+use crate::asks::{Asks, OpeningMove};
 use crate::entry::{Answer, Entry};
 use crate::head::Head;
 use crate::law::{Law, Opens, Traded};
-use crate::mark::{Mark, Seat};
+use crate::mark::{Mark, MarkSeat};
 use crate::tally::{Tallies, Tally};
 use group_history::{Means, Ref};
 use logbook::{Seen, Word};
@@ -48,7 +48,7 @@ impl<M: Means> Head<M> {
         ensures names { seen.new.names ≡ seen.old.names }
         ensures opened { seen.new.log ≡ opening seats to }
     {
-        let mut offer = none.offered::<M, Opening, Asks>(&Opening { seats, to });
+        let mut offer = none.offered::<M, OpeningMove, Asks>(&OpeningMove { seats, to });
         let mut pen = seen.no_pen();
         let bits = to.bits();
         let _ = self
@@ -75,7 +75,7 @@ fn seat_all<M: Means>(
         let tally = tallies.take();
         marks.push(Mark {
             seen: seen.again(),
-            seat: Some(Seat {
+            seat: Some(MarkSeat {
                 number: number as u64,
                 tally,
             }),

@@ -10,11 +10,11 @@ ghost use Rattle.head_word.specs.declared.entry.Entry.{Entry};
 ghost use Rattle.head_word.specs.Books.{last_move, next_stamp, drawn, drafted, moved, AreAfter, IsChangeFrom, IsOpened};
 ghost use Rattle.head_word.specs.Marks.{own};
 
-use crate::asks::{Asks, Look, Proposed};
+use crate::asks::{Asks, LookAsk, Proposed};
 use crate::entry::{Answer, Entry};
 use crate::head::Head;
 use crate::law::{AddsDraft, AddsMove, CountsAtDrafts, Traded};
-use crate::mark::{Mark, Seat};
+use crate::mark::{Mark, MarkSeat};
 use crate::tally::Tally;
 use group_history::{Change, Means, Ref};
 use logbook::Plain;
@@ -33,12 +33,12 @@ impl<M: Means> Head<M> {
         let Some(seat) = mark.seat.take() else {
             return 0;
         };
-        let Seat { number, tally } = seat;
-        let mut offer = tally.offered::<M, Look, Asks>(&Look { by: Some(number) });
+        let MarkSeat { number, tally } = seat;
+        let mut offer = tally.offered::<M, LookAsk, Asks>(&LookAsk { by: Some(number) });
         let next = self
             .draft_word
             .load::<CountsAtDrafts<M>, Traded>(&mut mark.seen, &mut offer);
-        mark.seat = Some(Seat {
+        mark.seat = Some(MarkSeat {
             number,
             tally: Tally::regained(offer.into_gain()),
         });
@@ -68,7 +68,7 @@ impl<M: Means> Head<M> {
         let Some(seat) = mark.seat.take() else {
             return false;
         };
-        let Seat { number, tally } = seat;
+        let MarkSeat { number, tally } = seat;
         let mut offer = tally.offered::<M, X, P>(about);
         let mut pen = mark.seen.no_pen();
         let found = self
@@ -80,7 +80,7 @@ impl<M: Means> Head<M> {
                 &mut offer,
                 &mut pen,
             );
-        mark.seat = Some(Seat {
+        mark.seat = Some(MarkSeat {
             number,
             tally: Tally::regained(offer.into_gain()),
         });
@@ -104,7 +104,7 @@ impl<M: Means> Head<M> {
         let Some(seat) = mark.seat.take() else {
             return false;
         };
-        let Seat { number, tally } = seat;
+        let MarkSeat { number, tally } = seat;
         let mut offer = tally.offered::<M, Proposed, Asks>(&Proposed {
             by: Some(number),
             to: new,
@@ -122,7 +122,7 @@ impl<M: Means> Head<M> {
                 &mut offer,
                 &mut pen,
             );
-        mark.seat = Some(Seat {
+        mark.seat = Some(MarkSeat {
             number,
             tally: Tally::regained(offer.into_gain()),
         });

@@ -4,7 +4,7 @@ use Rattle.std.proofs.lemmas.Bool.{false_from_ne_true}
 use Rattle.std.proofs.lemmas.Str.{is_utf8-from_IsUtf8, IsUtf8-from_is_utf8}
 use Rattle.std.specs.Str.{IsUtf8, is_utf8}
 use Rattle.group_history.specs.Map.{Bytes}
-use Rattle.client_desk.specs.declared.faults.Fault.TheVariants.{BadUuid, NotUtf8}
+use Rattle.client_desk.specs.declared.faults.CallFault.TheVariants.{BadUuid, NotUtf8}
 use Rattle.client_desk.specs.declared.outcomes.Outcome.TheVariants.{Faulty}
 use Rattle.host_places.specs.Asking.{or_bad_uuid, text_said}
 use Rattle.uuid.specs.Text.{parsed}

@@ -16,7 +16,7 @@ use Rattle.pull_patch.specs.declared.writes.Write.{Write}
 use Rattle.pull_patch.specs.Writes.{writes_in}
 use Rattle.client_desk.specs.declared.outcomes.Outcome.{Outcome}
 use Rattle.client_desk.specs.declared.outcomes.Outcome.TheVariants.{Faulty, Refused}
-use Rattle.client_desk.specs.declared.faults.Fault.TheVariants.{BadUuid, NotUtf8, OutOfRange}
+use Rattle.client_desk.specs.declared.faults.CallFault.TheVariants.{BadUuid, NotUtf8, OutOfRange}
 
 infixl 10 ◌>>=◌
 abbrev pub ◌>>=◌ : {A B : Type 0} → Result A Outcome → (A → Result B Outcome) → Result B Outcome

@@ -5,13 +5,13 @@ use Rattle.group_history.specs.declared.refusals.Refusal.TheVariants.{NoMemory}
 use Rattle.group_history.specs.Map.{Bytes}
 use Rattle.group_history.specs.Meaning.{Meanings}
 use Rattle.rebase.specs.Running.{UnderWay}
-use Rattle.client_desk.specs.declared.calls.Call.{Call}
-use Rattle.client_desk.specs.declared.calls.Call.TheVariants as call
+use Rattle.client_desk.specs.declared.calls.DeskCall.{DeskCall}
+use Rattle.client_desk.specs.declared.calls.DeskCall.TheVariants as call
 use Rattle.client_desk.specs.declared.calls.Keep.TheVariants.{AtNext}
-use Rattle.client_desk.specs.declared.faults.Fault.TheVariants.{OutOfRange}
+use Rattle.client_desk.specs.declared.faults.CallFault.TheVariants.{OutOfRange}
 use Rattle.client_desk.specs.declared.outcomes.Outcome.{Outcome}
 use Rattle.client_desk.specs.declared.outcomes.Outcome.TheVariants.{Faulty, Refused}
-use Rattle.client_desk.specs.Answers.{Rule, Tells}
+use Rattle.client_desk.specs.Answers.{Rule, TellsOutcome}
 use Rattle.client_desk.specs.Calls.{MayAnswer}
 use Rattle.client_desk.specs.Numbers.{outcome_value}
 use Rattle.client_desk.specs.Runs.{IsRunTold}
@@ -19,7 +19,7 @@ use Rattle.host_places.specs.declared.numbered.Numbered.{Numbered}
 use Rattle.host_places.specs.Asking.{named_said, put_said, ran_said, scan_said, text_said, uuid_said, writes_said}
 
 -- The numbers of a call: which one it is, then what it is given. What it doesn't use is not looked at.
-abbrev pub IsCall : Call → ℕ → ℕ → ℕ → Bytes → Bytes → Type 0
+abbrev pub IsCall : DeskCall → ℕ → ℕ → ℕ → Bytes → Bytes → Type 0
 IsCall (call.Sit id) what m n a b = (what ≡ 0) × (uuid_said a ≡ Ok id.now)
 IsCall call.Leave what m n a b = what ≡ 1
 IsCall (call.Get key) what m n a b = (what ≡ 2) × (text_said a ≡ Ok key.now)
@@ -73,15 +73,15 @@ SaysNothing what m n a b e =
     ⊎ ((what ≡ 34) × (writes_said a ≡ Err e)) ⊎ ((34 < what) × (e ≡ Faulty OutOfRange))
 
 -- memory is taken for what it is given
-abbrev pub IsCopied : ℕ → Type 0
-IsCopied what = HasScan what ⊎ (what ≡ 13) ⊎ (what ≡ 21) ⊎ (what ≡ 34)
+abbrev pub IsCopiedCall : ℕ → Type 0
+IsCopiedCall what = HasScan what ⊎ (what ≡ 13) ⊎ (what ≡ 21) ⊎ (what ≡ 34)
 
 -- The call of these numbers is answered, if what it is given says something; memory may be refused for that.
 abbrev pub MayAnswerNumbers : (Bytes → Bool) → Meanings → Numbered → Rule
 MayAnswerNumbers has means x before t after =
-    ((c : Call) × IsCall c x.what x.m x.n x.a.now x.b.now × MayAnswer has means c before t after)
-    ⊎ ((e : Outcome) × SaysNothing x.what x.m x.n x.a.now x.b.now e × Tells e before t after)
-    ⊎ (IsCopied x.what × Tells (Refused NoMemory) before t after)
+    ((c : DeskCall) × IsCall c x.what x.m x.n x.a.now x.b.now × MayAnswer has means c before t after)
+    ⊎ ((e : Outcome) × SaysNothing x.what x.m x.n x.a.now x.b.now e × TellsOutcome e before t after)
+    ⊎ (IsCopiedCall x.what × TellsOutcome (Refused NoMemory) before t after)
 
 -- the queries, by their numbers: get, has, scan, pending, cookie, closed, push, and get and scan of the pulled map
 abbrev pub is_query : ℕ → Bool

@@ -3,15 +3,15 @@ use Rattle.std.specs.Prelude.{ℕ, ◌≡◌, ◌⊎◌, List, length, Option, S
 use Rattle.std.specs.List.{All}
 use Rattle.group_history.specs.declared.refusals.Refusal.TheVariants.{Busy, Full, NoMemory}
 use Rattle.group_history.specs.Map.{Bytes}
-use Rattle.commit_graph.specs.Seats.{IsSeatOf, Seated}
+use Rattle.commit_graph.specs.Seats.{IsSeatOf, SeatState}
 use Rattle.head_word.specs.Books.{opening, opening_ref}
 use Rattle.push_body.specs.declared.identities.Identity.{Identity}
 use Rattle.rebase.specs.declared.config.OutOfRange.{OutOfRange}
 use Rattle.rebase.specs.Clients.{Grouped}
 use Rattle.rebase.specs.Configs.{Layout, out_of_range}
 use Rattle.uuid.specs.Text.{hyphenated_text, lower}
-use Rattle.client_desk.specs.declared.faults.Fault.TheVariants as fault
-use Rattle.host_places.specs.declared.opening.Opening.{Opening}
+use Rattle.client_desk.specs.declared.faults.CallFault.TheVariants as fault
+use Rattle.host_places.specs.declared.opening.GroupOpening.{GroupOpening}
 use Rattle.client_desk.specs.declared.outcomes.Outcome.{Outcome}
 use Rattle.client_desk.specs.declared.outcomes.Outcome.TheVariants.{Faulty, Refused}
 use Rattle.host_places.specs.Asking.{◌>>=◌, text_said, uuid_said}
@@ -35,17 +35,17 @@ abbrev pub layout_said : Bytes → Bytes → Bytes → ℕ → ℕ → Result La
 layout_said id profile schema slots seats =
     identity_said id profile schema >>= (λ i. laid_out (out_of_range slots seats) i slots seats)
 
-abbrev pub layout_for : Opening → Result Layout Outcome
+abbrev pub layout_for : GroupOpening → Result Layout Outcome
 layout_for with_ = layout_said with_.id.now with_.profile.now with_.schema.now with_.slots with_.places
 
 -- the seat has seen the opening of the group's book alone, which is for as many seats as its table
-abbrev pub SawOpening : Grouped → ℕ → Seated → Type 0
+abbrev pub SawOpening : Grouped → ℕ → SeatState → Type 0
 SawOpening group commit seat = seat.mark.log ≡ opening group.group.table.sizes.readers (opening_ref commit)
 
 -- A place of a group that was just opened: nobody sits there, and its seat has seen the opening of the group's book
 -- alone.
-pub record IsNew (group : Grouped) (commit : ℕ) (p : PlaceState) : Type 0 where
-  pub seat : Seated
+pub record IsFreshPlace (group : Grouped) (commit : ℕ) (p : PlaceState) : Type 0 where
+  pub seat : SeatState
   pub home : IsSeatOf group.group seat
   pub seen : SawOpening group commit seat
   pub free : p ≡ free_place group seat
@@ -57,8 +57,8 @@ pub record AreOpened (layout : Layout) (places : List PlaceState) : Type 0 where
   pub identity : group.identity ≡ layout.identity
   pub sizes : group.group.table.sizes ≡ record { readers = layout.seats; slots = layout.slots }
   pub count : length places ≡ layout.seats
-  pub all : All (IsNew group commit) places
+  pub all : All (IsFreshPlace group commit) places
 
 -- a refusal for want of something
-abbrev pub IsWant : Outcome → Type 0
-IsWant e = (e ≡ Refused NoMemory) ⊎ (e ≡ Refused Busy) ⊎ (e ≡ Refused Full)
+abbrev pub IsWantToOpen : Outcome → Type 0
+IsWantToOpen e = (e ≡ Refused NoMemory) ⊎ (e ≡ Refused Busy) ⊎ (e ≡ Refused Full)

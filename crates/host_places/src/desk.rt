@@ -1,6 +1,6 @@
 //! A place of a host, and the bytes that its last call told.
 ghost use Rattle.std.specs.Prelude.{◌≡◌};
-ghost use Rattle.client_desk.specs.Answers.{Tells};
+ghost use Rattle.client_desk.specs.Answers.{TellsOutcome};
 ghost use Rattle.client_desk.specs.Calls.{MayAnswer};
 ghost use Rattle.client_desk.specs.Closing.{Closes};
 ghost use Rattle.client_desk.specs.Drafts.{HasRunAsMeant};
@@ -10,7 +10,7 @@ ghost use Rattle.host_places.specs.Numbers.{HasKey, HasScan, IsRunSaid, MayAnswe
 
 use crate::numbered::{Numbered, is_query, key_call, scan_call};
 use crate::texts::{named_of, put_of, ran_of, scan_of, str_of, uuid_of, writes_of};
-use client_desk::{Call, Fault, HostRuns, Hosted, Keep, Mutate, Outcome, Place};
+use client_desk::{CallFault, DeskCall, HostRuns, Hosted, Keep, Mutate, Outcome, Place};
 use rebase::{Arena, Seat};
 use std::alloc::Global;
 use std::marker::Model;
@@ -29,7 +29,7 @@ impl<M: Hosted> Model for Desk<M> {
     ghost use Rattle.group_history.specs.contracts.changes.Change as the_change;
     ghost use Rattle.group_history.specs.contracts.mutations.Mutation as the_mutation;
     ghost use Rattle.head_word.specs.contracts.entry.Entry as entry;
-    ghost use Rattle.group_steps.specs.Rooting.{entries_coded};
+    ghost use Rattle.change_tries.specs.Rooting.{entries_coded};
     ghost use Rattle.host_places.specs.Desks.{DeskState};
 
     ghost Value = { DeskState };
@@ -93,7 +93,7 @@ impl<M: Hosted> Desk<M> {
 
     // Nothing is done: what the call was given says nothing, or memory was refused for it.
     fn refuse(&mut self, outcome: Outcome) -> Outcome
-        ensures { Tells outcome self.old.place (told result self.new.bytes) self.new.place }
+        ensures { TellsOutcome outcome self.old.place (told result self.new.bytes) self.new.place }
     {
         self.bytes.clear();
         outcome
@@ -101,7 +101,7 @@ impl<M: Hosted> Desk<M> {
 }
 
 impl<M: HostRuns> Desk<M> {
-    fn call(&mut self, call: Call<'_>) -> Outcome
+    fn call(&mut self, call: DeskCall<'_>) -> Outcome
         requires { HasRunAsMeant M.had M.means self.old.place call }
         ensures { MayAnswer M.had M.means call.entry self.old.place (told result self.new.bytes) self.new.place }
     {
@@ -115,7 +115,7 @@ impl<M: HostRuns> Desk<M> {
             self.new.place }
     {
         match uuid_of(asked.a) {
-            Ok(id) => self.call(Call::Sit(&id)),
+            Ok(id) => self.call(DeskCall::Sit(&id)),
             Err(outcome) => self.refuse(outcome),
         }
     }
@@ -148,7 +148,7 @@ impl<M: HostRuns> Desk<M> {
             self.new.place }
     {
         match named_of(self.alloc, asked.a, asked.b) {
-            Ok((name, args)) => self.call(Call::Mutate(Mutate {
+            Ok((name, args)) => self.call(DeskCall::Mutate(Mutate {
                 name: &name,
                 args: &args,
                 time: asked.n,
@@ -163,7 +163,7 @@ impl<M: HostRuns> Desk<M> {
             self.new.place }
     {
         match put_of(self.alloc, asked.a, asked.b) {
-            Ok((key, value)) => self.call(Call::DraftPut(key, &value)),
+            Ok((key, value)) => self.call(DeskCall::DraftPut(key, &value)),
             Err(outcome) => self.refuse(outcome),
         }
     }
@@ -174,7 +174,7 @@ impl<M: HostRuns> Desk<M> {
             self.new.place }
     {
         match writes_of(self.alloc, asked.a) {
-            Ok(writes) => self.call(Call::DraftWrites(writes.as_slice())),
+            Ok(writes) => self.call(DeskCall::DraftWrites(writes.as_slice())),
             Err(outcome) => self.refuse(outcome),
         }
     }
@@ -186,7 +186,7 @@ impl<M: HostRuns> Desk<M> {
             self.new.place }
     {
         match ran_of(asked.m, asked.n) {
-            Ok(ran) => self.call(Call::Ran(ran)),
+            Ok(ran) => self.call(DeskCall::Ran(ran)),
             Err(outcome) => self.refuse(outcome),
         }
     }
@@ -201,41 +201,41 @@ impl<M: HostRuns> Desk<M> {
     {
         match asked.what {
             0 => self.sit(asked),
-            1 => self.call(Call::Leave),
+            1 => self.call(DeskCall::Leave),
             2 => self.call_key(asked),
             3 => self.call_key(asked),
             4 => self.call_scan(asked),
-            5 => self.call(Call::Pending),
-            6 => self.call(Call::Cookie),
-            7 => self.call(Call::Closed),
-            8 => self.call(Call::Refresh),
-            9 => self.call(Call::Push(asked.m as usize)),
-            10 => self.call(Call::Begin(Keep::AtNext)),
-            11 => self.call(Call::Forget(asked.m as usize)),
-            12 => self.call(Call::End(asked.m as usize, asked.a)),
+            5 => self.call(DeskCall::Pending),
+            6 => self.call(DeskCall::Cookie),
+            7 => self.call(DeskCall::Closed),
+            8 => self.call(DeskCall::Refresh),
+            9 => self.call(DeskCall::Push(asked.m as usize)),
+            10 => self.call(DeskCall::Begin(Keep::AtNext)),
+            11 => self.call(DeskCall::Forget(asked.m as usize)),
+            12 => self.call(DeskCall::End(asked.m as usize, asked.a)),
             13 => self.mutate(asked),
             14 => self.call_scan(asked),
-            15 => self.call(Call::Poll(asked.m as usize)),
-            16 => self.call(Call::AskedName),
-            17 => self.call(Call::AskedArgs),
+            15 => self.call(DeskCall::Poll(asked.m as usize)),
+            16 => self.call(DeskCall::AskedName),
+            17 => self.call(DeskCall::AskedArgs),
             18 => self.call_key(asked),
             19 => self.call_key(asked),
             20 => self.call_scan(asked),
             21 => self.put(asked),
             22 => self.call_key(asked),
             23 => self.ran(asked),
-            24 => self.call(Call::GiveUp),
-            25 => self.call(Call::Slots),
-            26 => self.call(Call::BeginRead),
-            27 => self.call(Call::EndRead),
-            28 => self.call(Call::Moment),
+            24 => self.call(DeskCall::GiveUp),
+            25 => self.call(DeskCall::Slots),
+            26 => self.call(DeskCall::BeginRead),
+            27 => self.call(DeskCall::EndRead),
+            28 => self.call(DeskCall::Moment),
             29 => self.call_key(asked),
             30 => self.call_scan(asked),
-            31 => self.call(Call::Unwatch(asked.m as usize)),
-            32 => self.call(Call::AskedRun),
-            33 => self.call(Call::PollChanges(asked.m as usize)),
+            31 => self.call(DeskCall::Unwatch(asked.m as usize)),
+            32 => self.call(DeskCall::AskedRun),
+            33 => self.call(DeskCall::PollChanges(asked.m as usize)),
             34 => self.write(asked),
-            _ => self.refuse(Outcome::Faulty(Fault::OutOfRange)),
+            _ => self.refuse(Outcome::Faulty(CallFault::OutOfRange)),
         }
     }
 }

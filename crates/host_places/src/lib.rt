@@ -18,8 +18,8 @@ mod numbered;
 mod opening;
 mod texts;
 
-pub use client_desk::{Fault, HostRuns, Hosted, Outcome};
+pub use client_desk::{CallFault, HostRuns, Hosted, Outcome};
 pub use desk::Desk;
-pub use mutators::{HostMutators, Picked};
+pub use mutators::{HostMutators, NamesMutators};
 pub use numbered::Numbered;
-pub use opening::{Opening, close_places, open_places};
+pub use opening::{GroupOpening, close_places, open_places};

@@ -17,24 +17,24 @@ use std::alloc::Global;
 use std::marker::{Brand, PhantomData};
 
 /// Names in a type, for contracts alone, the mutators of a group.
-pub trait Picked {
+pub trait NamesMutators {
     ghost meant: { Meant };
 }
 
-impl Picked for Brand {
+impl NamesMutators for Brand {
     ghost meant = { record { rules = []; asks = false; own = λ name args why map. unknown } };
 }
 
 /// Rules; and whether a name without one is a mutator of the host's own. They are those that `B` names.
 #[derive(Drop)]
-pub struct HostMutators<B: Picked> {
+pub struct HostMutators<B: NamesMutators> {
     rules: Rules,
     asks: bool,
     of: PhantomData<B>,
     ghost named: { ∥ (rules_of rules ≡ B.meant.rules) × (asks ≡ B.meant.asks) ∥₁ },
 }
 
-impl<B: Picked> HostMutators<B> {
+impl<B: NamesMutators> HostMutators<B> {
     /// Mutators by these rules. Where `asks` says so, changes ask the host for runs of names without a rule.
     pub fn new(rules: Rules, asks: bool) -> HostMutators<B>
         requires rules { rules_of rules ≡ B.meant.rules }
@@ -48,23 +48,23 @@ impl<B: Picked> HostMutators<B> {
     }
 }
 
-impl<B: Picked> Means for HostMutators<B> {
+impl<B: NamesMutators> Means for HostMutators<B> {
     ghost means = { means_of B.meant };
 }
 
-impl<B: Picked> Has for HostMutators<B> {
+impl<B: NamesMutators> Has for HostMutators<B> {
     ghost has = { has_of B.meant };
 }
 
-impl<B: Picked> Hosted for HostMutators<B> {
+impl<B: NamesMutators> Hosted for HostMutators<B> {
     ghost had = { has_of B.meant };
 }
 
-impl<B: Picked + Sync> HostRuns for HostMutators<B> {
+impl<B: NamesMutators + Sync> HostRuns for HostMutators<B> {
     ghost same = { refl };
 }
 
-impl<B: Picked + Sync> Runs for HostMutators<B> {
+impl<B: NamesMutators + Sync> Runs for HostMutators<B> {
     fn run_if_any<V: WriteView>(
         &self,
         alloc: Global,

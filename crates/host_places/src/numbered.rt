@@ -4,7 +4,7 @@ ghost use Rattle.group_history.specs.Map.{Bytes};
 ghost use Rattle.host_places.specs.Asking.{scan_said, text_said};
 ghost use Rattle.host_places.specs.Numbers.{HasKey, HasScan, IsCall, is_query};
 
-use client_desk::{Call, Keep};
+use client_desk::{DeskCall, Keep};
 use group_history::Scan;
 
 /// A call by its number, with two numbers and two byte strings of which each call uses those that it needs.
@@ -25,31 +25,31 @@ pub(crate) fn is_query(what: u32) -> bool
 }
 
 /// The call of a number that has a key.
-pub(crate) fn key_call<'a>(what: u32, key: &'a str) -> Call<'a>
+pub(crate) fn key_call<'a>(what: u32, key: &'a str) -> DeskCall<'a>
     requires { HasKey what }
     ensures { (m n : ℕ) (a b : Bytes) → text_said a ≡ Ok key.now → IsCall result what m n a b }
 {
     match what {
-        2 => Call::Get(key),
-        3 => Call::Has(key),
-        18 => Call::DraftGet(key),
-        19 => Call::DraftHas(key),
-        22 => Call::DraftDel(key),
-        29 => Call::PulledGet(key),
+        2 => DeskCall::Get(key),
+        3 => DeskCall::Has(key),
+        18 => DeskCall::DraftGet(key),
+        19 => DeskCall::DraftHas(key),
+        22 => DeskCall::DraftDel(key),
+        29 => DeskCall::PulledGet(key),
         _ => unreachable!(),
     }
 }
 
 /// The call of a number that has a scan.
-pub(crate) fn scan_call<'a>(what: u32, scan: &'a Scan) -> Call<'a>
+pub(crate) fn scan_call<'a>(what: u32, scan: &'a Scan) -> DeskCall<'a>
     requires { HasScan what }
     ensures { (m n : ℕ) (a b : Bytes) → scan_said a m b n ≡ Ok scan.now → IsCall result what m n a b }
 {
     match what {
-        4 => Call::Scan(scan),
-        14 => Call::Watch(Keep::AtNext, scan),
-        20 => Call::DraftScan(scan),
-        30 => Call::PulledScan(scan),
+        4 => DeskCall::Scan(scan),
+        14 => DeskCall::Watch(Keep::AtNext, scan),
+        20 => DeskCall::DraftScan(scan),
+        30 => DeskCall::PulledScan(scan),
         _ => unreachable!(),
     }
 }

@@ -7,12 +7,13 @@ ghost use Rattle.rebase.specs.Clients.{AreSeatsOf};
 ghost use Rattle.rebase.specs.Configs.{Layout};
 ghost use Rattle.host_places.specs.Asking.{IsSaid};
 ghost use Rattle.host_places.specs.Inside.Filling.{IsAdded};
-ghost use Rattle.host_places.specs.Opening.{AreOpened, IsNew, IsWant, SawOpening, id_said, identity_said, layout_for};
+ghost use Rattle.host_places.specs.Opening.{AreOpened, IsFreshPlace, IsWantToOpen, SawOpening};
+ghost use Rattle.host_places.specs.Opening.{id_said, identity_said, layout_for};
 ghost use Rattle.client_desk.specs.Places.{free_place};
 
 use crate::desk::Desk;
 use crate::texts::{text_of, uuid_of};
-use client_desk::{Fault, Hosted, Outcome, Place};
+use client_desk::{CallFault, Hosted, Outcome, Place};
 use group_history::{Refusal, Text};
 use rebase::{Arena, Config, Group, Identity, Seat, Seats, Uuid};
 use std::alloc::{AllocError, AllocFailed, Global};
@@ -20,7 +21,7 @@ use std::sync::Arc;
 
 /// What a group is opened with: its ID, a UUID; two texts, which its requests have; how many slots and places it has.
 #[derive(Clone, Copy)]
-pub struct Opening<'a> {
+pub struct GroupOpening<'a> {
     pub id: &'a [u8],
     pub profile: &'a [u8],
     pub schema: &'a [u8],
@@ -39,7 +40,7 @@ fn id_text(alloc: Global, id: &[u8]) -> Result<Text, Outcome>
     }
 }
 
-fn identity_of(alloc: Global, with: Opening<'_>) -> Result<Identity, Outcome>
+fn identity_of(alloc: Global, with: GroupOpening<'_>) -> Result<Identity, Outcome>
     ensures { IsSaid result (identity_said with.entry.id.now with.entry.profile.now with.entry.schema.now) }
 {
     let group = id_text(alloc, with.id)?;
@@ -52,13 +53,13 @@ fn identity_of(alloc: Global, with: Opening<'_>) -> Result<Identity, Outcome>
     })
 }
 
-fn config_of(alloc: Global, with: Opening<'_>) -> Result<Config, Outcome>
+fn config_of(alloc: Global, with: GroupOpening<'_>) -> Result<Config, Outcome>
     ensures { IsSaid result (layout_for with.entry) }
 {
     let identity = identity_of(alloc, with)?;
     match Config::new(identity, with.slots, with.places) {
         Ok(config) => Ok(config),
-        Err(_) => Err(Outcome::Faulty(Fault::OutOfRange)),
+        Err(_) => Err(Outcome::Faulty(CallFault::OutOfRange)),
     }
 }
 
@@ -115,7 +116,7 @@ fn fill_desks<M: Hosted + Sync>(
     requires none { desks.old.items ≡ [] }
     ensures count { OnOk result (length desks.new.items ≡ length seats.old.free) }
     ensures new { (commit : ℕ) → All (SawOpening (arc_value group.now) commit) seats.old.free
-        → OnOk result (All (λ d. IsNew (arc_value group.now) commit d.place) desks.new.items) }
+        → OnOk result (All (λ d. IsFreshPlace (arc_value group.now) commit d.place) desks.new.items) }
 {
     while let Ok(seat) = seats.take() {
         add_desk(alloc, group, seat, desks)?;
@@ -132,7 +133,7 @@ fn desks_of<M: Hosted + Sync>(
     requires { AreSeatsOf (arc_value group).group seats.free }
     ensures count { IfOk result (λ desks. length desks.items ≡ length seats.free) }
     ensures new { (commit : ℕ) → All (SawOpening (arc_value group) commit) seats.free
-        → IfOk result (λ desks. All (λ d. IsNew (arc_value group) commit d.place) desks.items) }
+        → IfOk result (λ desks. All (λ d. IsFreshPlace (arc_value group) commit d.place) desks.items) }
 {
     let mut seats = seats;
     let mut desks = Vec::new(alloc);
@@ -156,7 +157,7 @@ fn desks_at<M: Hosted + Sync>(
     requires { AreSeatsOf group.group seats.free }
     ensures count { IfOk result (λ desks. length desks.items ≡ length seats.free) }
     ensures new { (commit : ℕ) → All (SawOpening group commit) seats.free
-        → IfOk result (λ desks. All (λ d. IsNew group commit d.place) desks.items) }
+        → IfOk result (λ desks. All (λ d. IsFreshPlace group commit d.place) desks.items) }
 {
     let group = Arc::new(alloc, group)?;
     desks_of(alloc, group, seats)
@@ -166,13 +167,13 @@ fn desks_at<M: Hosted + Sync>(
 /// `Full` do not come.
 pub fn open_places<M: Hosted + Sync>(
     alloc: Global,
-    with: Opening<'_>,
+    with: GroupOpening<'_>,
     mutators: M,
 ) -> Result<Vec<Desk<M>>, Outcome>
     ensures opened { IfOk result (λ desks. (layout : Layout)
         × (layout_for with.entry ≡ Ok layout)
         × AreOpened layout (map (λ d. d.place) desks.items)) }
-    ensures err { IfErr result (λ e. IsWant e
+    ensures err { IfErr result (λ e. IsWantToOpen e
         ⊎ (layout_for with.entry ≡ Err e)) }
 {
     let config = config_of(alloc, with)?;

@@ -3,7 +3,7 @@ ghost use Rattle.std.specs.Prelude.{◌≡◌};
 ghost use Rattle.host_places.specs.Asking.{IsSaid, json_said, limit_said, map_said, named_said, put_said, ran_said};
 ghost use Rattle.host_places.specs.Asking.{scan_said, start_said, text_said, uuid_said, writes_said};
 
-use client_desk::{Fault, Outcome};
+use client_desk::{CallFault, Outcome};
 use group_history::{Json, Ran, Refusal, Scan, Start, Text};
 use pull_patch::{Write, read_writes};
 use rebase::Uuid;
@@ -15,7 +15,7 @@ pub(crate) fn str_of(bytes: &[u8]) -> Result<&str, Outcome>
 {
     match str::from_utf8(bytes) {
         Ok(text) => Ok(text),
-        Err(_) => Err(Outcome::Faulty(Fault::NotUtf8)),
+        Err(_) => Err(Outcome::Faulty(CallFault::NotUtf8)),
     }
 }
 
@@ -39,11 +39,11 @@ pub(crate) fn uuid_of(bytes: &[u8]) -> Result<Uuid, Outcome>
 {
     let text = match str_of(bytes) {
         Ok(text) => text,
-        Err(_) => return Err(Outcome::Faulty(Fault::BadUuid)),
+        Err(_) => return Err(Outcome::Faulty(CallFault::BadUuid)),
     };
     match Uuid::try_parse(text) {
         Ok(uuid) => Ok(uuid),
-        Err(_) => Err(Outcome::Faulty(Fault::BadUuid)),
+        Err(_) => Err(Outcome::Faulty(CallFault::BadUuid)),
     }
 }
 
@@ -64,7 +64,7 @@ fn start_of(alloc: Global, kind: u32, bytes: &[u8]) -> Result<Start, Outcome>
         0 => Ok(Start::Any),
         1 => Ok(Start::At(text_of(alloc, bytes)?)),
         2 => Ok(Start::After(text_of(alloc, bytes)?)),
-        _ => Err(Outcome::Faulty(Fault::OutOfRange)),
+        _ => Err(Outcome::Faulty(CallFault::OutOfRange)),
     }
 }
 
@@ -133,6 +133,6 @@ pub(crate) fn ran_of(kind: u32, code: u64) -> Result<Ran, Outcome>
         0 => Ok(Ran::Done),
         1 if code <= u32::MAX as u64 => Ok(Ran::Refused(code as u32)),
         2 => Ok(Ran::Unknown),
-        _ => Err(Outcome::Faulty(Fault::OutOfRange)),
+        _ => Err(Outcome::Faulty(CallFault::OutOfRange)),
     }
 }

@@ -24,26 +24,26 @@ use Rattle.head_word.specs.Marks.{Known, own, own_of}
 use Rattle.head_word.specs.Tallies.{key_of, mine}
 use Rattle.head_word.proofs.Books.{record_more}
 use Rattle.head_word.proofs.Counting.{mine_more}
-use Rattle.answered.specs.Answered.{IsPoint, IsAnswered, IsLeft, IsRefused, IsLinearized, is_move, is_mute}
-use Rattle.answered.specs.Answered.{is_resource_refusal}
-use Rattle.answered.specs.Answered.{moves_for, no_change, own_moves}
-use Rattle.answered.specs.Changes.{after_made, change_made, change_read}
-use Rattle.answered.proofs.AtOnce.{record_at}
-use Rattle.answered.proofs.Holding.{change_laws_hold}
+use Rattle.linearized.specs.Answered.{IsPoint, IsAnswered, IsLeft, IsRefused, IsLinearized, is_move, is_mute}
+use Rattle.linearized.specs.Answered.{is_resource_refusal}
+use Rattle.linearized.specs.Answered.{moves_for, no_change, own_moves}
+use Rattle.linearized.specs.Changes.{after_made, change_made, change_read}
+use Rattle.linearized.proofs.AtOnce.{record_at}
+use Rattle.linearized.proofs.Holding.{change_laws_hold}
 use Rattle.pull_patch.specs.Grammar.{answer_to}
 use Rattle.rebase.specs.Asking.{end_bytes_reply}
-use Rattle.commit_graph.specs.Seats.{IsLater, Seated}
+use Rattle.commit_graph.specs.Seats.{IsLater, SeatState}
 use Rattle.commit_graph.proofs.Seating.{later-self, later-trans}
 use Rattle.rebase.specs.Calls.{AreAnswered, AreReplies, Caller, IsAlone, IsMade, IsReplyTo, asked_mutation}
 use Rattle.rebase.specs.Calls.{caller, caller_after, caller_of, change_of, ended_in, id_in, last_after, moves_of_others}
 use Rattle.rebase.specs.Calls.{reply_to}
 use Rattle.rebase.specs.Clients.{ClientState, Grouped, IsSameClient}
-use Rattle.group_steps.specs.Missing.{IsStoreRefusal, map_ok}
+use Rattle.change_tries.specs.Missing.{IsStoreRefusal, map_ok}
 use Rattle.rebase.specs.Replies.{Replied, reply_seen, ended, id}
 use Rattle.rebase.specs.declared.calls.Call.{Call}
 use Rattle.rebase.specs.declared.calls.Call.TheVariants as call
 use Rattle.rebase.specs.declared.calls.Mutate.{Mutate}
-use Rattle.rebase.specs.declared.calls.Reply.{Reply}
+use Rattle.rebase.specs.declared.calls.CallReply.{CallReply}
 use Rattle.rebase.specs.declared.tickets.Ticket.{Ticket}
 
 -- MOVES
@@ -201,10 +201,10 @@ in_turn means tries old new (Err e) change right later alone is = by (change (Er
 -- LISTS OF CALLS
 
 -- calls only add to what their caller has seen
-calls_later : (means : Meanings) (reused : Type 0) (tries : ℕ) (c : Caller) (old : Seated) (xs : List Call)
-    (rs : List (Result Replied Refusal)) (new : Seated) (end : Caller)
+calls_later : (means : Meanings) (reused : Type 0) (tries : ℕ) (c : Caller) (old : SeatState) (xs : List Call)
+    (rs : List (Result Replied Refusal)) (new : SeatState) (end : Caller)
     → AreAnswered means reused tries c old xs rs new end → IsLater old.mark new.mark
-calls_later means reused tries c old [] [] new end all = subst (λ (s : Seated). IsLater old.mark s.mark) (sym all.0)
+calls_later means reused tries c old [] [] new end all = subst (λ (s : SeatState). IsLater old.mark s.mark) (sym all.0)
     (later-self old.mark)
 calls_later means reused tries c old [] (r ∷ rs) new end all = absurd all
 calls_later means reused tries c old (x ∷ xs) [] new end all = absurd all
@@ -213,13 +213,13 @@ calls_later means reused tries c old (x ∷ xs) (r ∷ rs) new end all =
     (calls_later means reused tries (caller_after c r) all.0 xs rs new end all.2)
 
 -- Where no other seat moved the head between the first call and the last, none did so in any of them.
-pub alone_replies : (means : Meanings) (reused : Type 0) (tries : ℕ) (c : Caller) (old : Seated) (xs : List Call)
-    (rs : List (Result Replied Refusal)) (new : Seated) (end : Caller)
+pub alone_replies : (means : Meanings) (reused : Type 0) (tries : ℕ) (c : Caller) (old : SeatState) (xs : List Call)
+    (rs : List (Result Replied Refusal)) (new : SeatState) (end : Caller)
     → AreAnswered means reused tries c old xs rs new end
     → IsAlone old.mark new.mark
     → AreReplies means c (after (record_of old.mark.log)) xs rs (after (record_of new.mark.log)) end
 alone_replies means reused tries c old [] [] new end all alone =
-    (ap (λ (s : Seated). after (record_of s.mark.log)) all.0, all.1)
+    (ap (λ (s : SeatState). after (record_of s.mark.log)) all.0, all.1)
 alone_replies means reused tries c old [] (r ∷ rs) new end all alone = absurd all
 alone_replies means reused tries c old (x ∷ xs) [] new end all alone = absurd all
 alone_replies means reused tries c old (x ∷ xs) (r ∷ rs) new end all alone =
@@ -239,13 +239,13 @@ alone_replies means reused tries c old (x ∷ xs) (r ∷ rs) new end all alone =
     )
 
 -- one call more
-answered_more : (means : Meanings) (reused : Type 0) (tries : ℕ) (c : Caller) (old mid new : Seated) (xs : List Call)
+answered_more : (means : Meanings) (reused : Type 0) (tries : ℕ) (c : Caller) (old mid new : SeatState) (xs : List Call)
     (rs : List (Result Replied Refusal)) (d : Caller) (x : Call) (r : Result Replied Refusal)
     → AreAnswered means reused tries c old xs rs mid d → IsMade means reused tries d x r mid new
     → AreAnswered means reused tries c old (xs ++ x ∷ []) (rs ++ r ∷ []) new (caller_after d r)
 answered_more means reused tries c old mid new [] [] d x r all made = (
   new,
-  subst (λ (s : Seated). IsMade means reused tries c x r s new) all.0
+  subst (λ (s : SeatState). IsMade means reused tries c x r s new) all.0
       (subst (λ (e : Caller). IsMade means reused tries e x r mid new) all.1 made),
   (refl, ap (λ e. caller_after e r) all.1),
 )
@@ -262,8 +262,8 @@ map_more f [] x = refl
 map_more f (y ∷ xs) x = ap (λ w. f y ∷ w) (map_more f xs x)
 
 -- a turn of the loop over the calls
-pub turn : (means : Meanings) (reused : Type 0) (tries : ℕ) (c d : Caller) (old mid new : Seated) (all : List Call)
-    (i : ℕ) (x : Call) (rs news : List (Result Reply Refusal)) (r : Result Reply Refusal) → i < length all → x
+pub turn : (means : Meanings) (reused : Type 0) (tries : ℕ) (c d : Caller) (old mid new : SeatState) (all : List Call)
+    (i : ℕ) (x : Call) (rs news : List (Result CallReply Refusal)) (r : Result CallReply Refusal) → i < length all → x
     ≡ get_or all i x
     → AreAnswered means reused tries c old (take i all) (map (map_ok reply_seen) rs) mid d
     → IsMade means reused tries d x (map_ok reply_seen r) mid new → news ≡ rs ++ r ∷ []
@@ -324,7 +324,8 @@ answers_told f means tries old new (Err e) change right shown told_right same se
     by o false h = (h.0, h.1, seen (after (record_of h.0)) ∙ told_refusal f (right (after (record_of h.0))) e h.2)
 
 -- a reply that was made of an answer, as it is told
-pub mapped : {X : Type 0} (f : X → Reply) (shown : X → Replied) (r : Result X Refusal) (m : Result Reply Refusal)
+pub mapped : {X : Type 0} (f : X → CallReply) (shown : X → Replied) (r : Result X Refusal)
+    (m : Result CallReply Refusal)
     → ((x : X) → reply_seen (f x) ≡ shown x) → MatchResult r (λ x. IsOkAnd m (λ y. y ≡ f x)) (λ e. m ≡ Err e)
     → map_ok reply_seen m ≡ map_ok shown r
 mapped f shown (Ok x) (Ok y) same is = ap (λ z. Ok (reply_seen z)) is ∙ ap Ok (same x)
@@ -349,8 +350,9 @@ told_twice f g (Ok x) = refl
 told_twice f g (Err e) = refl
 
 -- of a query, whose answer is made a reply
-pub query_told : {X Y : Type 0} (f : X → Reply) (g : X → Y) (shown : Y → Replied) (means : Meanings) (tries : ℕ)
-    (old new : Known) (c : Caller) (x y : Call) (r : Result X Refusal) (m : Result Reply Refusal) (right : State → Y)
+pub query_told : {X Y : Type 0} (f : X → CallReply) (g : X → Y) (shown : Y → Replied) (means : Meanings) (tries : ℕ)
+    (old new : Known) (c : Caller) (x y : Call) (r : Result X Refusal) (m : Result CallReply Refusal)
+    (right : State → Y)
     → x ≡ y → ((z : X) → reply_seen (f z) ≡ shown (g z))
     → MatchResult r (λ z. IsOkAnd m (λ w. w ≡ f z)) (λ e. m ≡ Err e)
     → change_of c y (map_ok shown (map_ok g r)) ≡ None → ((s : State) → reply_to means c s y ≡ Ok (shown (right s)))

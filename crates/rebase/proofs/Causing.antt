@@ -7,19 +7,19 @@ use Rattle.group_history.specs.declared.changes.Change.{Change}
 use Rattle.group_history.specs.declared.refusals.Refusal.{Refusal}
 use Rattle.group_history.specs.Meaning.{Meanings}
 use Rattle.reader_claims.specs.declared.view.View.{View}
-use Rattle.commit_graph.specs.Seats.{HasLooked, IsCalm, IsSameSeat, Seated}
+use Rattle.commit_graph.specs.Seats.{HasLooked, IsCalm, IsSameSeat, SeatState}
 use Rattle.commit_graph.proofs.Seating.{seat-self, seat-trans}
-use Rattle.answered.specs.Answered.{is_resource_refusal}
-use Rattle.group_steps.specs.Causes.{HasCause}
-use Rattle.answered.proofs.Losing.{others_grow}
-use Rattle.group_steps.specs.Leaving.{Frees, FreesAnew, MayTake, spared}
-use Rattle.group_steps.specs.Missing.{IsMissedOrDry, map_ok}
-use Rattle.group_steps.proofs.Giving.{after_tries, cause_since, gives_calm, gives_none}
+use Rattle.linearized.specs.Answered.{is_resource_refusal}
+use Rattle.change_tries.specs.Causes.{HasCause}
+use Rattle.linearized.proofs.Losing.{others_grow}
+use Rattle.change_tries.specs.Leaving.{Frees, FreesAnew, MayTake, spared}
+use Rattle.change_tries.specs.Missing.{IsStoreOrMemory, map_ok}
+use Rattle.change_tries.proofs.Giving.{after_tries, cause_since, gives_calm, gives_none}
 
 -- CAUSES
 
 -- a right refusal needs none
-pub cause_named : (means : Meanings) (reused : Type 0) (last : ℕ) (asked : Option Change) (old new : Seated)
+pub cause_named : (means : Meanings) (reused : Type 0) (last : ℕ) (asked : Option Change) (old new : SeatState)
     (e : Refusal)
     → is_resource_refusal e ≡ false → HasCause means reused last asked old new e
 cause_named means reused last asked old new e named = record {
@@ -30,9 +30,9 @@ cause_named means reused last asked old new e named = record {
 }
 
 -- what looks, and asks for no change, has no other causes
-pub cause_missed : (means : Meanings) (reused : Type 0) (last : ℕ) (asked : Option Change) (old new : Seated)
+pub cause_missed : (means : Meanings) (reused : Type 0) (last : ℕ) (asked : Option Change) (old new : SeatState)
     (e : Refusal)
-    → IsMissedOrDry reused e → HasCause means reused last asked old new e
+    → IsStoreOrMemory reused e → HasCause means reused last asked old new e
 cause_missed means reused last asked old new e (inl dry) = record {
   full = λ r is. absurd (cc (sym dry ∙ is));
   past = λ r is. absurd (cc (sym dry ∙ is));
@@ -53,7 +53,7 @@ cause_missed means reused last asked old new e (inr (inr busy)) = record {
 }
 
 -- the cause stands for the whole of a call that was begun anew
-pub cause_anew : (means : Meanings) (reused : Type 0) (last : ℕ) (asked : Option Change) (old mid new : Seated)
+pub cause_anew : (means : Meanings) (reused : Type 0) (last : ℕ) (asked : Option Change) (old mid new : SeatState)
     (e : Refusal) → IsPrefix old.mark.log mid.mark.log → mid.table ≡ old.table →
     (reused → old.view.epoch_loads ≤ mid.view.epoch_loads)
     → HasCause means reused last asked mid new e → HasCause means reused last asked old new e
@@ -79,7 +79,7 @@ spared_told f (Ok x) = refl
 spared_told f (Err e) = refl
 
 -- a seat that only looked
-pub frees_none : (reused : Type 0) (asked : Option Change) (spare : ℕ) (old new : Seated) → HasLooked reused old new
+pub frees_none : (reused : Type 0) (asked : Option Change) (spare : ℕ) (old new : SeatState) → HasLooked reused old new
     → reused → Frees asked spare old new None
 frees_none reused asked spare old new looked r = (
   0,
@@ -87,11 +87,11 @@ frees_none reused asked spare old new looked r = (
   gives_calm (MayTake old.table.sizes asked old.mark new.mark) old new looked.own (looked.calm r),
 )
 
-pub frees_self : (asked : Option Change) (old : Seated) → FreesAnew asked old old None
+pub frees_self : (asked : Option Change) (old : SeatState) → FreesAnew asked old old None
 frees_self asked old = (0, gives_none (MayTake old.table.sizes asked old.mark old.mark) old)
 
 -- what was told of a value in other words
-pub frees_told : {X Y : Type 0} (f : X → Y) (asked : Option Change) (old new : Seated) (r : Result X Refusal)
+pub frees_told : {X Y : Type 0} (f : X → Y) (asked : Option Change) (old new : SeatState) (r : Result X Refusal)
     (reply : Result Y Refusal) (o p : Option Change) → reply ≡ map_ok f r → o ≡ p
     → Frees asked (spared r) old new o → Frees asked (spared reply) old new p
 frees_told f asked old new r reply o p is same frees =
@@ -99,7 +99,7 @@ frees_told f asked old new r reply o p is same frees =
     (subst (Frees asked (spared r) old new) same frees)
 
 -- more may be spared
-pub frees_more : (asked : Option Change) (less more : ℕ) (old new : Seated) (o : Option Change) → less ≤ more
+pub frees_more : (asked : Option Change) (less more : ℕ) (old new : SeatState) (o : Option Change) → less ≤ more
     → Frees asked less old new o → Frees asked more old new o
 frees_more asked less more old new o low (n, few, f) = (n, omega (arith, few, low), f)
 
@@ -111,7 +111,7 @@ calm_calm v w u a b = record {
   reached = let x = a.reached in let y = b.reached in omega arith;
 }
 
-pub looked_looked : (reused : Type 0) (old mid new : Seated) → HasLooked reused old mid → HasLooked reused mid new
+pub looked_looked : (reused : Type 0) (old mid new : SeatState) → HasLooked reused old mid → HasLooked reused mid new
     → HasLooked reused old new
 looked_looked reused old mid new a b = record {
   seat = seat-trans old mid new a.seat b.seat;
@@ -119,7 +119,7 @@ looked_looked reused old mid new a b = record {
   calm = λ r. calm_calm old.view mid.view new.view (a.calm r) (b.calm r);
 }
 
-pub looked_self : (reused : Type 0) (old : Seated) → HasLooked reused old old
+pub looked_self : (reused : Type 0) (old : SeatState) → HasLooked reused old old
 looked_self reused old = record {
   seat = seat-self old;
   own = refl;
@@ -127,11 +127,11 @@ looked_self reused old = record {
 }
 
 -- an earlier part of the call made no change
-pub frees_anew : (asked : Option Change) (spare : ℕ) (old mid new : Seated) (o : Option Change) → IsSameSeat old mid
+pub frees_anew : (asked : Option Change) (spare : ℕ) (old mid new : SeatState) (o : Option Change) → IsSameSeat old mid
     → IsSameSeat mid new → FreesAnew asked old mid None → Frees asked spare mid new o → FreesAnew asked old new o
 frees_anew asked spare old mid new o first then (n, gave) (m, few, frees) =
     (n + m, after_tries old mid new asked n m o first then gave frees)
 
-pub frees_loads : (asked : Option Change) (old new : Seated) → FreesAnew asked old new None
+pub frees_loads : (asked : Option Change) (old new : SeatState) → FreesAnew asked old new None
     → old.view.epoch_loads ≤ new.view.epoch_loads
 frees_loads asked old new (n, gave) = gave.back.loads

@@ -8,15 +8,15 @@ use Rattle.group_history.specs.Map.{Bytes}
 use Rattle.group_history.specs.Refs.{stamp_of}
 use Rattle.head_word.specs.Books.{drawn}
 use Rattle.commit_graph.specs.LastIds.{last_at}
-use Rattle.commit_graph.specs.Seats.{GroupId, IsSameSeat, Seated}
+use Rattle.commit_graph.specs.Seats.{GroupId, IsSameSeat, SeatState}
 use Rattle.commit_graph.specs.declared.states.LastId.{LastId}
-use Rattle.group_steps.specs.Proposing.{AsksNext, StaysFound}
-use Rattle.group_steps.specs.declared.views.Rooted.{Rooted}
-use Rattle.group_steps.proofs.Finding.{last_grown}
-use Rattle.group_steps.proofs.Rooting.{roots_stay}
+use Rattle.change_tries.specs.Proposing.{AsksNext, StaysFound}
+use Rattle.change_tries.specs.declared.views.Rooted.{Rooted}
+use Rattle.change_tries.proofs.Finding.{last_grown}
+use Rattle.change_tries.proofs.Rooting.{roots_stay}
 use Rattle.rebase.specs.Inside.Keeping.{Keeps}
 
-pub keeps_later : (reused : Type 0) (group : GroupId) (old new : Seated) (id : Bytes) (last : ℕ) (found : Ref)
+pub keeps_later : (reused : Type 0) (group : GroupId) (old new : SeatState) (id : Bytes) (last : ℕ) (found : Ref)
     (latest : Option Rooted) → IsSameSeat old new → (reused → new.view.taken ≡ [])
     → Keeps reused group old id last found latest → Keeps reused group new id last found latest
 keeps_later reused group old new id last found latest same none k = record {
@@ -28,7 +28,7 @@ keeps_later reused group old new id last found latest same none k = record {
 }
 
 -- where its last id was found by the way
-pub keeps_found : (reused : Type 0) (group : GroupId) (old new : Seated) (id : Bytes) (last : ℕ) (found : Ref)
+pub keeps_found : (reused : Type 0) (group : GroupId) (old new : SeatState) (id : Bytes) (last : ℕ) (found : Ref)
     (latest : Option Rooted) (now : LastId) (c : Change) → AsksNext id last c
     → StaysFound (drawn new.mark.log) (record { at = found; id = last }) now c → IsSameSeat old new
     → (reused → new.view.taken ≡ []) → Keeps reused group old id last found latest

@@ -12,9 +12,9 @@ use Rattle.group_history.specs.Cookies.{Cookie}
 use Rattle.group_history.specs.Meaning.{Meanings}
 use Rattle.group_history.specs.State.{State}
 use Rattle.head_word.specs.Marks.{Known}
-use Rattle.answered.specs.Answered.{IsLinearized, IsRefused, is_mute, is_resource_refusal, own_moves}
-use Rattle.answered.specs.Changes.{change_read}
-use Rattle.answered.proofs.Losing.{point_since}
+use Rattle.linearized.specs.Answered.{IsLinearized, IsRefused, is_mute, is_resource_refusal, own_moves}
+use Rattle.linearized.specs.Changes.{change_read}
+use Rattle.linearized.proofs.Losing.{point_since}
 use Rattle.rebase.specs.Asking.{is_passing}
 
 passing_wants : (X : Type 0) (e : Refusal) → is_passing {X = X} (Err e) ≡ true → is_resource_refusal e ≡ true

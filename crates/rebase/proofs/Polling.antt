@@ -13,11 +13,8 @@ use Rattle.group_history.specs.declared.scans.Scan.{Scan}
 use Rattle.group_history.specs.Map.{Bytes, Entries}
 use Rattle.group_history.specs.Map.{same_text as same_bytes}
 use Rattle.group_history.specs.Scans.{limited, rows_of}
-use Rattle.group_history.specs.Meaning.{Meanings}
-use Rattle.group_history.specs.Queries.{view_rows}
 use Rattle.group_history.specs.Refs.{stamp_of}
 use Rattle.group_history.specs.Spelling.{Contents, map_at}
-use Rattle.group_history.specs.State.{State, view_of}
 use Rattle.group_history.proofs.Folding.{and_then-some}
 use Rattle.group_history.proofs.Lists.{no_element}
 use Rattle.head_word.specs.declared.entry.Entry.{Entry}
@@ -105,13 +102,6 @@ read_kept mine theirs scan (Some told) more read =
       covers_kept (drawn mine) (drawn theirs) scan told.cover read.0 p read.3,
       spans_known scan (drawn mine) (drawn theirs) told.rows told.spans p read.4,
     )
-
--- where a scan has no limit, all its rows are told
-pub all_told : (means : Meanings) (s : State) (scan : Scan) → scan.limit ≡ None
-    → scanned scan (finite.entries (view_of means s)) ≡ view_rows means s scan
-all_told means s scan none =
-    let rows = scanned scan (finite.entries (view_of means s)) in
-    sym (ap (λ (l : Option ℕ). limited l rows) none)
 
 -- no spans say nothing
 pub spans_none : (scan : Scan) (contents : Contents) (rows : Rows) (spans : List Span) → spans ≡ []

@@ -27,43 +27,43 @@ use Rattle.group_history.specs.State.{State, state}
 use Rattle.head_word.specs.Books.{IsOpened, drawn, record_of}
 use Rattle.head_word.specs.Marks.{Known}
 use Rattle.pull_patch.specs.Grammar.{answer_to}
-use Rattle.commit_graph.specs.Seats.{GroupId, IsSameSeat, Seated}
+use Rattle.commit_graph.specs.Seats.{GroupId, IsSameSeat, SeatState}
 use Rattle.chunk_slots.specs.Seats.{IsIdle}
 use Rattle.commit_graph.proofs.Seating.{seat-self, seat-trans}
-use Rattle.answered.specs.Answered.{IsLinearized, is_resource_refusal, no_change, own_moves}
-use Rattle.answered.specs.Changes.{change_applied, change_closing, change_made, change_read}
+use Rattle.linearized.specs.Answered.{IsLinearized, is_resource_refusal, no_change, own_moves}
+use Rattle.linearized.specs.Changes.{change_applied, change_closing, change_made, change_read}
 use mathlib.Core.List.{IsPrefix}
-use Rattle.answered.proofs.Losing.{others_grow}
-use Rattle.group_steps.proofs.Giving.{after_tries, gives_calm, gives_none}
-use Rattle.group_steps.specs.Arriving.{when_seen}
-use Rattle.group_steps.specs.Causes.{HasCause}
-use Rattle.group_steps.specs.Changing.{ended_as, is_made}
-use Rattle.group_steps.specs.Leaving.{Frees, MayTake, spared}
-use Rattle.group_steps.specs.Missing.{map_ok}
-use Rattle.group_steps.specs.Proposing.{asked_reply, change_asked}
-use Rattle.group_steps.proofs.Making.{wanting}
+use Rattle.linearized.proofs.Losing.{others_grow}
+use Rattle.change_tries.proofs.Giving.{after_tries, gives_calm, gives_none}
+use Rattle.change_tries.specs.Arriving.{when_seen}
+use Rattle.change_tries.specs.Causes.{HasCause}
+use Rattle.change_tries.specs.Changing.{ended_as, is_made}
+use Rattle.change_tries.specs.Leaving.{Frees, MayTake, spared}
+use Rattle.change_tries.specs.Missing.{map_ok}
+use Rattle.change_tries.specs.Proposing.{asked_reply, change_asked}
+use Rattle.change_tries.proofs.Making.{wanting}
 use Rattle.transactions.specs.Maps.{map_or}
-use Rattle.group_steps.specs.Runs.{IsAskedRun, run_start}
-use Rattle.group_steps.specs.Runs.{IsFirstRun, left_of, with_more}
+use Rattle.change_tries.specs.Runs.{IsAskedRun, run_start}
+use Rattle.change_tries.specs.Runs.{IsFirstRun, left_of, with_more}
 use Rattle.group_history.proofs.Replays.{replayed-append}
-use Rattle.group_steps.specs.Tries.{Follows as FollowsRun, StartsAnew}
-use Rattle.group_steps.specs.Tries.{IsEnded, IsFound, IsProgress, IsSince, TellsProgress}
-use Rattle.group_steps.specs.declared.trying.Attempt.{Attempt}
-use Rattle.group_steps.specs.declared.runs.AskedRun.{AskedRun}
-use Rattle.group_steps.specs.declared.trying.Progress.{Progress}
-use Rattle.group_steps.specs.declared.trying.Progress.TheVariants as progress
-use Rattle.rebase.specs.Asked.{Tells}
+use Rattle.change_tries.specs.Tries.{FollowsRun, StartsAnew}
+use Rattle.change_tries.specs.Tries.{IsEnded, IsFoundMade, IsProgress, IsSince, TellsProgress}
+use Rattle.change_tries.specs.declared.trying.Attempt.{Attempt}
+use Rattle.change_tries.specs.declared.runs.AskedRun.{AskedRun}
+use Rattle.change_tries.specs.declared.trying.Progress.{Progress}
+use Rattle.change_tries.specs.declared.trying.Progress.TheVariants as progress
+use Rattle.rebase.specs.Asked.{TellsAsked}
 use Rattle.rebase.specs.Asking.{change_wanted, end_bytes_reply}
 use Rattle.rebase.specs.Calls.{ended_in}
-use Rattle.rebase.specs.Clients.{Acts, ClientState, IsSameClient, Stays}
+use Rattle.rebase.specs.Clients.{AfterChange, ClientState, IsSameClient, AfterQuery}
 use Rattle.rebase.specs.Inside.Made.{closing_ended, reply_made}
 use Rattle.rebase.specs.Inside.Shown.{IsShown, under_way}
 use Rattle.rebase.specs.Replies.{Replied, ended, id, reply_seen}
-use Rattle.rebase.specs.Running.{AsksFor, BeganAs, EndsCall, EndsPull, Follows, IsAsked, IsFirst, IsFirstAt}
+use Rattle.rebase.specs.Running.{AsksFor, BeganAs, EndsCall, EndsPull, Follows, IsAsked, IsFirstAsked, IsFirstAt}
 use Rattle.rebase.specs.Running.{IsJudgedAt, IsUnwritten, UnderWay, change_replied, change_reply, last_called}
 use Rattle.rebase.specs.declared.asking.Asked.{Asked}
 use Rattle.rebase.specs.declared.asking.Asked.TheVariants as asked
-use Rattle.rebase.specs.declared.calls.Reply.{Reply}
+use Rattle.rebase.specs.declared.calls.CallReply.{CallReply}
 use Rattle.rebase.proofs.CallLemmas.{answers_told, ended_shown, id_shown, why_told}
 use Rattle.rebase.proofs.Causing.{cause_missed, cause_named, frees_more, frees_none}
 use Rattle.rebase.proofs.Telling.{closing_told, never_unknown, next_told, pull_told}
@@ -94,7 +94,7 @@ change_told means tries old new last Closed made is =
 
 -- a reply stands for the change that was made
 pub replied_same : (means : Meanings) (tries : ℕ) (old new : Known) (last : ℕ) (c : Change) (cs : Contents)
-    (made : Result (Option Ref) Refusal) → IsFound cs c made
+    (made : Result (Option Ref) Refusal) → IsFoundMade cs c made
     → IsLinearized means tries old new (map_ok is_made made) (change_asked c) (λ s. asked_reply means s last c)
     → change_asked c (map_ok is_made made) ≡ change_replied c (reply_made last c made)
 replied_same means tries old new last (Mutated x) cs (Ok (Some at)) found is = refl
@@ -110,7 +110,7 @@ replied_same means tries old new last Closed cs (Err refusal.StateNotFound) foun
 replied_same means tries old new last Closed cs (Err e) found is = refl
 
 -- a refusal that is told has its cause
-pub cause_replied : (means : Meanings) (reused : Type 0) (last : ℕ) (c : Change) (before new : Seated)
+pub cause_replied : (means : Meanings) (reused : Type 0) (last : ℕ) (c : Change) (before new : SeatState)
     (made : Result (Option Ref) Refusal) → IfErr made (HasCause means reused last (Some c) before new)
     → IfErr (reply_made last c made) (HasCause means reused last (Some c) before new)
 cause_replied means reused last (Mutated x) before new (Ok at) h = tt
@@ -134,8 +134,8 @@ spared_replied last Closed (Err e) = omega arith
 -- the end of a call
 pub ends_call : (means : Meanings) (reused : Type 0) (tries : ℕ) (before new : ClientState) (c : Change) (cs : Contents)
     (made : Result (Option Ref) Refusal) (reply : Result Replied Refusal)
-    → reply ≡ reply_made before.last c made → IsFound cs c made
-    → new.last ≡ last_called before.last c reply → Acts reused before new
+    → reply ≡ reply_made before.last c made → IsFoundMade cs c made
+    → new.last ≡ last_called before.last c reply → AfterChange reused before new
     → IsEnded means reused tries before.seat new.seat before.last c made
     → EndsCall means reused tries before new c reply
 ends_call means reused tries before new c cs made reply is found last acts e =
@@ -182,7 +182,7 @@ asks_for means cs s last c run u one others start is = record {
 }
 
 -- where a run is asked for, or the call ended, the seat has no taken slot
-pub progress_none : (has : Bytes → Bool) (means : Meanings) (reused : Type 0) (group : GroupId) (new : Seated)
+pub progress_none : (has : Bytes → Bool) (means : Meanings) (reused : Type 0) (group : GroupId) (new : SeatState)
     (tries last : ℕ) (c : Change)
     {M : Type 0} (p : Progress M) → IsProgress has means reused group new tries last c p → reused → new.view.taken ≡ []
 progress_none has means reused group new tries last c (progress.Run a) is r = is.0.none r
@@ -194,7 +194,7 @@ progress_none has means reused group new tries last c (progress.Ended made) is r
 pub refused_call : (means : Meanings) (reused : Type 0) (tries : ℕ) (before new : ClientState) (c : Change)
     (e : Refusal)
     → change_replied c (Err e) ≡ None → last_called before.last c (Err e) ≡ before.last → e ≡ refusal.NoMemory
-    → Stays reused before new → new.seat.mark ≡ before.seat.mark
+    → AfterQuery reused before new → new.seat.mark ≡ before.seat.mark
     → EndsCall means reused tries before new c (Err e)
 refused_call means reused tries before new c e none same dry stays mark = record {
   answer = wanting means tries before.seat.mark new.seat.mark e (change_replied c)
@@ -211,7 +211,7 @@ refused_call means reused tries before new c e none same dry stays mark = record
 pub unread_call : (means : Meanings) (reused : Type 0) (tries : ℕ) (before new : ClientState) (k : Cookie)
     (body : Bytes)
     (e : Refusal) → IsOpened means before.seat.mark.log → Refuses e (answer_to body)
-    → Stays reused before new → new.seat.mark ≡ before.seat.mark
+    → AfterQuery reused before new → new.seat.mark ≡ before.seat.mark
     → EndsPull means reused tries before new k body (Err e)
 unread_call means reused tries before new k body e legal read stays mark =
     let told : Result Ended Refusal → Option Change = λ reply. change_read k (answer_to body) reply in record {
@@ -268,7 +268,7 @@ pub unsupported_ends : (means : Meanings) (reused : Type 0) (tries : ℕ) (befor
     → answer_to body ≡ Ok (response.VersionNotSupported kind) → reply ≡ map_ok ended r
     → IsLinearized means tries before.seat.mark new.seat.mark r no_change
     (λ s. end_reply s k.text (response.VersionNotSupported kind))
-    → Stays reused before new → IfErr r (HasCause means reused before.last None before.seat new.seat)
+    → AfterQuery reused before new → IfErr r (HasCause means reused before.last None before.seat new.seat)
     → EndsPull means reused tries before new k body reply
 unsupported_ends means reused tries before new k body kind r reply read is told stays cause =
     subst (EndsPull means reused tries before new k body) (sym is) (record {
@@ -350,16 +350,16 @@ go_end has means reused tries before client new c {M} p made reply is same last 
     (subst (λ (n : ℕ). new.last ≡ last_called n c reply) last called)
     (record {
       client = (kept.0 ∙ same.0, kept.1 ∙ same.1);
-      seat = subst (λ (w : Seated). IsSameSeat before.seat w) (sym here) seat;
-      rests = subst (λ (w : Seated). reused → IsIdle w.view) (sym here) s.0;
+      seat = subst (λ (w : SeatState). IsSameSeat before.seat w) (sym here) seat;
+      rests = subst (λ (w : SeatState). reused → IsIdle w.view) (sym here) s.0;
     })
-    (subst (λ (w : Seated). IsEnded means reused tries before.seat w before.last c made) (sym here) t)
+    (subst (λ (w : SeatState). IsEnded means reused tries before.seat w before.last c made) (sym here) t)
 
 -- nothing was changed
 pub given_up : (means : Meanings) (reused : Type 0) (before : ClientState) (u : UnderWay) (new : ClientState)
-    → BeganAs means reused before u → Stays reused u.client new
+    → BeganAs means reused before u → AfterQuery reused u.client new
     → new.seat.mark ≡ u.client.seat.mark
-    → Acts reused before new × (new.last ≡ before.last) × (own_moves new.seat.mark ≡ own_moves before.seat.mark)
+    → AfterChange reused before new × (new.last ≡ before.last) × (own_moves new.seat.mark ≡ own_moves before.seat.mark)
     × (reused → Frees (Some u.change) 0 before.seat new.seat None)
 given_up means reused before u new b stays mark = (
   record {
@@ -390,9 +390,9 @@ pub refused_told : (means : Meanings) (reused : Type 0) (tries : ℕ) (before : 
     {M S T : Type 0} (a : Asked M S T) → change_replied c (Err e) ≡ None → last_called before.last c (Err e)
     ≡ before.last
     → e ≡ refusal.NoMemory
-    → Tells a (λ u. ⊥) (λ client reply. (reply ≡ Err e) × Stays reused before client
+    → TellsAsked a (λ u. ⊥) (λ client reply. (reply ≡ Err e) × AfterQuery reused before client
     × (client.seat.mark ≡ before.seat.mark))
-    → Tells a (IsAsked means reused tries before c)
+    → TellsAsked a (IsAsked means reused tries before c)
     (λ client reply. EndsCall means reused tries before client c (map_ok reply_seen reply))
 refused_told means reused tries before c e (asked.Run u) none same dry h = absurd h
 refused_told means reused tries before c e (asked.Ended client reply) none same dry h =
@@ -402,9 +402,9 @@ refused_told means reused tries before c e (asked.Ended client reply) none same 
 pub unread_told : (means : Meanings) (reused : Type 0) (tries : ℕ) (before : ClientState) (k : Cookie) (body : Bytes)
     (e : Refusal) (P : UnderWay → Type 0) {M S T : Type 0} (a : Asked M S T) → IsOpened means before.seat.mark.log
     → Refuses e (answer_to body)
-    → Tells a (λ u. ⊥) (λ client reply. (reply ≡ Err e) × Stays reused before client
+    → TellsAsked a (λ u. ⊥) (λ client reply. (reply ≡ Err e) × AfterQuery reused before client
     × (client.seat.mark ≡ before.seat.mark))
-    → Tells a P (λ client reply. EndsPull means reused tries before client k body (map_ok reply_seen reply))
+    → TellsAsked a P (λ client reply. EndsPull means reused tries before client k body (map_ok reply_seen reply))
 unread_told means reused tries before k body e P (asked.Run u) legal read h = absurd h
 unread_told means reused tries before k body e P (asked.Ended client reply) legal read h =
     subst (EndsPull means reused tries before client k body) (sym (ap (map_ok reply_seen) h.0))
@@ -413,9 +413,9 @@ unread_told means reused tries before k body e P (asked.Ended client reply) lega
 -- what is told of a response without an error
 pub pulled_told_as : (means : Meanings) (reused : Type 0) (tries : ℕ) (before : ClientState) (k : Cookie) (r : Pull)
     (body : Bytes) {M S T : Type 0} (a : Asked M S T) → answer_to body ≡ Ok (response.Ok r)
-    → Tells a (IsAsked means reused tries before (Pulled k r))
+    → TellsAsked a (IsAsked means reused tries before (Pulled k r))
     (λ client reply. EndsCall means reused tries before client (Pulled k r) (map_ok reply_seen reply))
-    → Tells a (λ u. (given : Pull) × (answer_to body ≡ Ok (response.Ok given))
+    → TellsAsked a (λ u. (given : Pull) × (answer_to body ≡ Ok (response.Ok given))
     × IsAsked means reused tries before (Pulled k given) u)
     (λ client reply. EndsPull means reused tries before client k body (map_ok reply_seen reply))
 pulled_told_as means reused tries before k r body (asked.Run u) read h = (r, read, h)
@@ -425,9 +425,9 @@ pulled_told_as means reused tries before k r body (asked.Ended client reply) rea
 -- and where the server does not know the group
 pub closed_told_as : (means : Meanings) (reused : Type 0) (tries : ℕ) (before : ClientState) (k : Cookie) (body : Bytes)
     (P : UnderWay → Type 0) {M S T : Type 0} (a : Asked M S T) → answer_to body ≡ Ok response.StateNotFound
-    → Tells a (IsAsked means reused tries before Closed)
+    → TellsAsked a (IsAsked means reused tries before Closed)
     (λ client reply. EndsCall means reused tries before client Closed (map_ok reply_seen reply))
-    → Tells a P (λ client reply. EndsPull means reused tries before client k body (map_ok reply_seen reply))
+    → TellsAsked a P (λ client reply. EndsPull means reused tries before client k body (map_ok reply_seen reply))
 closed_told_as means reused tries before k body P (asked.Run u) read h = absurd h.run.judged
 closed_told_as means reused tries before k body P (asked.Ended client reply) read h =
     closed_ends means reused tries before client k body (map_ok reply_seen reply) read h
@@ -436,8 +436,8 @@ closed_told_as means reused tries before k body P (asked.Ended client reply) rea
 pub unsupported_told : (means : Meanings) (reused : Type 0) (tries : ℕ) (before : ClientState) (k : Cookie)
     (body : Bytes)
     (P : UnderWay → Type 0) {M S T : Type 0} (a : Asked M S T)
-    → Tells a (λ u. ⊥) (λ client reply. EndsPull means reused tries before client k body (map_ok reply_seen reply))
-    → Tells a P (λ client reply. EndsPull means reused tries before client k body (map_ok reply_seen reply))
+    → TellsAsked a (λ u. ⊥) (λ client reply. EndsPull means reused tries before client k body (map_ok reply_seen reply))
+    → TellsAsked a P (λ client reply. EndsPull means reused tries before client k body (map_ok reply_seen reply))
 unsupported_told means reused tries before k body P (asked.Run u) h = absurd h
 unsupported_told means reused tries before k body P (asked.Ended client reply) h = h
 
@@ -445,8 +445,8 @@ unsupported_told means reused tries before k body P (asked.Ended client reply) h
 
 -- nothing more is told
 pub tells_none : {M S T : Type 0} (a : Asked M S T) (P : UnderWay → Type 0)
-    (E : ClientState → Result Reply Refusal → Type 0)
-    → Tells a (λ u. ⊥) E → Tells a P (λ client reply. Unit {0})
+    (E : ClientState → Result CallReply Refusal → Type 0)
+    → TellsAsked a (λ u. ⊥) E → TellsAsked a P (λ client reply. Unit {0})
 tells_none (asked.Run u) P E h = absurd h
 tells_none (asked.Ended client reply) P E h = tt
 
@@ -460,10 +460,11 @@ first_at has s Closed cs client a tries h = tt
 -- the first run of a call
 pub first_shown : (has : Bytes → Bool) (client : ClientState) (c : Change) (tries n : ℕ) {M : Type 0}
     (p : Progress M) {X S T : Type 0}
-    (asking : Asked X S T) → Tells asking (IsShown client c tries p) (λ client reply. Unit {0}) → StartsAnew has n c p
-    → Tells asking (IsFirst has) (λ client reply. Unit {0})
+    (asking : Asked X S T) → TellsAsked asking (IsShown client c tries p) (λ client reply. Unit {0})
+    → StartsAnew has n c p
+    → TellsAsked asking (IsFirstAsked has) (λ client reply. Unit {0})
 first_shown has client c tries n (progress.Run a) (asked.Run u) h start =
-    subst (λ (w : UnderWay). IsFirst has w) (sym h)
+    subst (λ (w : UnderWay). IsFirstAsked has w) (sym h)
     (first_at has (after (record_of a.arrival.seen.log)) c [] client a tries start.1)
 first_shown has client c tries n (progress.Ended made) (asked.Run u) h start = absurd h
 first_shown has client c tries n (progress.Run a) (asked.Ended d reply) h start = tt
@@ -475,14 +476,14 @@ pub next_run : (has : Bytes → Bool) (means : Meanings) (old client : ClientSta
     → FollowsRun has means old.seat client.seat was ran c (progress.Run a)
     → Follows has means (under_way old c was tries) ran (under_way client c a tries)
 next_run has means old client c tries was a ran (inl f) =
-    let cs : Seated → Contents = λ w. drawn w.mark.log in
+    let cs : SeatState → Contents = λ w. drawn w.mark.log in
     inl (record {
       lost = f.1;
       seen = ap (λ w. w.seen.log) f.2;
       own = f.3.own;
       had = f.3.had;
       order = f.3.order;
-      start = ap (λ (w : Seated). run_start (cs w) a.run) f.0 ∙ f.3.start;
+      start = ap (λ (w : SeatState). run_start (cs w) a.run) f.0 ∙ f.3.start;
     })
 next_run has means old client c tries was a ran (inr g) =
     inr (omega (arith, g.0), first_at has (after (record_of a.arrival.seen.log)) c [] client a tries g.1)
@@ -490,9 +491,9 @@ next_run has means old client c tries was a ran (inr g) =
 pub next_shown : (has : Bytes → Bool) (means : Meanings) (old client : ClientState) (c : Change)
     (tries : ℕ) {M : Type 0} (was : Attempt M) (ran : Ran)
     (p : Progress M) {X S T : Type 0} (asking : Asked X S T)
-    → Tells asking (IsShown client c tries p) (λ client reply. Unit {0})
+    → TellsAsked asking (IsShown client c tries p) (λ client reply. Unit {0})
     → FollowsRun has means old.seat client.seat was ran c p
-    → Tells asking (Follows has means (under_way old c was tries) ran) (λ client reply. Unit {0})
+    → TellsAsked asking (Follows has means (under_way old c was tries) ran) (λ client reply. Unit {0})
 next_shown has means old client c tries was ran (progress.Run a) (asked.Run u) h f =
     subst (λ (w : UnderWay). Follows has means (under_way old c was tries) ran w) (sym h)
     (next_run has means old client c tries was a ran f)

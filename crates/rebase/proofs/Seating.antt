@@ -9,7 +9,7 @@ use Rattle.std.proofs.lemmas.List.Elements.{All-nil, All-push, All-pop}
 use Rattle.logbook.specs.Pages.{Book}
 use Rattle.head_word.specs.declared.entry.Entry.{Entry}
 use Rattle.head_word.specs.Marks.{Known, known, HasSeat, seated}
-use Rattle.commit_graph.specs.Seats.{Seated}
+use Rattle.commit_graph.specs.Seats.{SeatState}
 use Rattle.rebase.specs.Clients.{AreNumbered}
 use Rattle.chunk_slots.proofs.Begins.{length_seated}
 
@@ -51,14 +51,14 @@ seated_at book log (suc n) k d less =
     ]
 
 -- and so are its seats, of which the last one has the first mark
-pub numbered : (book : Book) (log : List Entry) (n : ℕ) (marks : List Known) (seats : List Seated)
+pub numbered : (book : Book) (log : List Entry) (n : ℕ) (marks : List Known) (seats : List SeatState)
     → marks ≡ seated book log n → marks ≡ reverse (map (λ seat. seat.mark) seats) → AreNumbered book log n seats
 numbered book log n marks seats are backwards i d low =
     let own : List Known = map (λ seat. seat.mark) seats in
     let long : length seats ≡ n = sym (ap length (sym are ∙ backwards) ∙ length-reverse own
     ∙ length-map seats (λ seat. seat.mark)) ∙ length_seated book log n in
     let turned : own ≡ reverse (seated book log n) = sym (reverse-reverse own) ∙ ap reverse (sym backwards ∙ are) in
-    sym (get_or-map (λ (seat : Seated). seat.mark) seats i d d.mark low) ∙ ap (λ ms. get_or ms i d.mark) turned
+    sym (get_or-map (λ (seat : SeatState). seat.mark) seats i d d.mark low) ∙ ap (λ ms. get_or ms i d.mark) turned
     ∙ get_or-reverse (seated book log n) i d.mark (omega (low, long, length_seated book log n, arith))
     ∙ ap (λ m. get_or (seated book log n) (m - 1 - i) d.mark) (length_seated book log n)
     ∙ seated_at book log n (n - 1 - i) d.mark (omega (low, long, arith))
@@ -79,11 +79,12 @@ handed_on {A} {B} {V} f g all from rest last x done more y is one grown same wer
     ∙ ap (λ w. map f rest ++ w) (sym back)))
 
 -- the last mark of a list goes to the end of the seats
-pub handed_marks : (all from rest : List Known) (last : Option Known) (x : Known) (done more : List Seated) (y : Seated)
+pub handed_marks : (all from rest : List Known) (last : Option Known) (x : Known) (done more : List SeatState)
+    (y : SeatState)
     → from ≡ rest ++ option_to_list last → last ≡ Some x → more ≡ done ++ y ∷ [] → y.mark ≡ x
     → all ≡ from ++ reverse (map (λ seat. seat.mark) done) → all ≡ rest ++ reverse (map (λ seat. seat.mark) more)
 handed_marks all from rest last x done more y is one grown same were =
-    let mark : Seated → Known = λ seat. seat.mark in
+    let mark : SeatState → Known = λ seat. seat.mark in
     handed_on (λ (m : Known). m) mark all from rest last x done more y is one grown same
     (were ∙ ap (λ w. w ++ reverse (map mark done)) (sym (map-id from))) ∙ ap (λ w. w ++ reverse (map mark more))
     (map-id rest)

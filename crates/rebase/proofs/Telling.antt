@@ -21,13 +21,13 @@ use Rattle.group_history.specs.Record.{after}
 use Rattle.group_history.specs.State.{State, last_id, view_of}
 use Rattle.head_word.specs.Books.{record_of}
 use Rattle.head_word.specs.Marks.{Known}
-use Rattle.answered.specs.Answered.{IsLinearized, IsPoint, IsRefused, is_resource_refusal}
-use Rattle.answered.specs.Changes.{change_applied, change_closing, change_made}
-use Rattle.commit_graph.specs.Seats.{Seated}
-use Rattle.group_steps.specs.Leaving.{Frees, spared}
-use Rattle.group_steps.specs.Missing.{map_ok}
-use Rattle.group_steps.specs.Changing.{ended_as, is_made}
-use Rattle.group_steps.specs.Proposing.{asked_reply, change_asked, closing_reply, is_applied}
+use Rattle.linearized.specs.Answered.{IsLinearized, IsPoint, IsRefused, is_resource_refusal}
+use Rattle.linearized.specs.Changes.{change_applied, change_closing, change_made}
+use Rattle.commit_graph.specs.Seats.{SeatState}
+use Rattle.change_tries.specs.Leaving.{Frees, spared}
+use Rattle.change_tries.specs.Missing.{map_ok}
+use Rattle.change_tries.specs.Changing.{ended_as, is_made}
+use Rattle.change_tries.specs.Proposing.{asked_reply, change_asked, closing_reply, is_applied}
 use Rattle.rebase.specs.Inside.Made.{closing_ended}
 use Rattle.rebase.proofs.Causing.{frees_more}
 
@@ -212,7 +212,7 @@ closing_same means tries old new last (Err refusal.StateNotFound) is =
 closing_same means tries old new last (Err e) is = refl
 
 -- what was done to slots, as it is told
-pub frees_closing : (means : Meanings) (tries : ℕ) (old new : Seated) (last : ℕ) (made : Result (Option Ref) Refusal)
+pub frees_closing : (means : Meanings) (tries : ℕ) (old new : SeatState) (last : ℕ) (made : Result (Option Ref) Refusal)
     → IsLinearized means tries old.mark new.mark (map_ok is_made made) (change_asked Closed)
     (λ s. asked_reply means s last Closed)
     → Frees (Some Closed) (spared made) old new (change_asked Closed (map_ok is_made made))

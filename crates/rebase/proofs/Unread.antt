@@ -17,15 +17,15 @@ use Rattle.head_word.specs.Books.{IsOpened, record_of}
 use Rattle.head_word.specs.Marks.{Known}
 use Rattle.pull_patch.specs.Grammar.{answer_to}
 use Rattle.pull_patch.proofs.Refusals.{refused_for}
-use Rattle.answered.specs.Answered.{IsLinearized, IsRefused, is_resource_refusal}
-use Rattle.answered.specs.Changes.{change_read}
-use Rattle.answered.proofs.Moving.{point_seen}
+use Rattle.linearized.specs.Answered.{IsLinearized, IsRefused, is_resource_refusal}
+use Rattle.linearized.specs.Changes.{change_read}
+use Rattle.linearized.proofs.Moving.{point_seen}
 use Rattle.rebase.specs.Asking.{end_bytes_reply}
-use Rattle.commit_graph.specs.Seats.{Seated}
-use Rattle.group_steps.specs.Causes.{HasCause}
+use Rattle.commit_graph.specs.Seats.{SeatState}
+use Rattle.change_tries.specs.Causes.{HasCause}
 use Rattle.rebase.proofs.Causing.{cause_missed, cause_named}
-use Rattle.group_steps.proofs.Drafting.{right_or}
-use Rattle.group_steps.proofs.Making.{wanting}
+use Rattle.change_tries.proofs.Drafting.{right_or}
+use Rattle.change_tries.proofs.Making.{wanting}
 
 -- WHAT IS ANSWERED
 
@@ -67,7 +67,7 @@ unread means tries m ticket body e book is = by_cause (right_or e (answer_to bod
         ))
 
 -- they lack nothing but memory
-pub unread_cause : (means : Meanings) (reused : Type 0) (last : ℕ) (asked : Option Change) (old new : Seated)
+pub unread_cause : (means : Meanings) (reused : Type 0) (last : ℕ) (asked : Option Change) (old new : SeatState)
     (body : Bytes) (e : Refusal) → Refuses e (answer_to body) → HasCause means reused last asked old new e
 unread_cause means reused last asked old new body e is = by_cause (right_or e (answer_to body) is)
   where

@@ -5,10 +5,10 @@ use Rattle.rebase.specs.Clients.{ClientState}
 use Rattle.rebase.specs.Running.{UnderWay}
 use Rattle.rebase.specs.declared.asking.Asked.{Asked}
 use Rattle.rebase.specs.declared.asking.Asked.TheVariants as asked
-use Rattle.rebase.specs.declared.calls.Reply.{Reply}
+use Rattle.rebase.specs.declared.calls.CallReply.{CallReply}
 
 -- a run is asked for, or the call ended
-abbrev pub Tells : {M S T : Type 0} → Asked M S T → (UnderWay → Type 0)
-    → (ClientState → Result Reply Refusal → Type 0) → Type 0
-Tells (asked.Run a) run end = run a
-Tells (asked.Ended c r) run end = end c r
+abbrev pub TellsAsked : {M S T : Type 0} → Asked M S T → (UnderWay → Type 0)
+    → (ClientState → Result CallReply Refusal → Type 0) → Type 0
+TellsAsked (asked.Run a) run end = run a
+TellsAsked (asked.Ended c r) run end = end c r

@@ -17,13 +17,13 @@ use Rattle.head_word.specs.Marks.{Known}
 use Rattle.pull_patch.specs.Grammar.{answer_to}
 use Rattle.push_body.specs.Bodies.{push_text}
 use Rattle.push_body.specs.declared.identities.Identity.{Identity}
-use Rattle.answered.specs.Answered.{IsLinearized, is_move, is_resource_refusal, own_moves}
-use Rattle.answered.specs.Changes.{change_made, change_read, after_made}
+use Rattle.linearized.specs.Answered.{IsLinearized, is_move, is_resource_refusal, own_moves}
+use Rattle.linearized.specs.Changes.{change_made, change_read, after_made}
 use Rattle.rebase.specs.Asking.{change_wanted, end_bytes_reply}
-use Rattle.commit_graph.specs.Seats.{HasLooked, IsSameSeat, Seated}
-use Rattle.group_steps.specs.Causes.{HasCause}
-use Rattle.group_steps.specs.Leaving.{Frees, spared}
-use Rattle.group_steps.specs.Missing.{IsMissedOrDry, map_ok}
+use Rattle.commit_graph.specs.Seats.{HasLooked, IsSameSeat, SeatState}
+use Rattle.change_tries.specs.Causes.{HasCause}
+use Rattle.change_tries.specs.Leaving.{Frees, spared}
+use Rattle.change_tries.specs.Missing.{IsStoreOrMemory, map_ok}
 use Rattle.rebase.specs.Clients.{ClientState}
 use Rattle.rebase.specs.Queries.{asked_at}
 use Rattle.rebase.specs.Replies.{Replied, value, yes_or_no, rows, pending, cookie, id, body, ticket, ended}
@@ -113,12 +113,12 @@ caller_after c reply = caller c.identity c.client (last_after c.last reply)
 -- What changes nothing in the group is refused for want of memory, or where a slot or a pin is lost to others, and for
 -- nothing else.
 abbrev pub MayRefuse : Type 0 → Call → Result Replied Refusal → Type 0
-MayRefuse reused x r = is_reading x ≡ true → IfErr r (IsMissedOrDry reused)
+MayRefuse reused x r = is_reading x ≡ true → IfErr r (IsStoreOrMemory reused)
 
 -- One call of a list, by the caller's seat before and after it: the reply is right at a point of its own, whatever
 -- others do meanwhile; why it was refused; and what it did to slots.
 pub record IsMade (means : Meanings) (reused : Type 0) (tries : ℕ) (c : Caller) (x : Call)
-    (r : Result Replied Refusal) (old new : Seated) : Type 0 where
+    (r : Result Replied Refusal) (old new : SeatState) : Type 0 where
   pub seat : IsSameSeat old new
   pub answer : IsLinearized means tries old.mark new.mark r (change_of c x) (λ s. reply_to means c s x)
   pub refused : MayRefuse reused x r
@@ -128,13 +128,13 @@ pub record IsMade (means : Meanings) (reused : Type 0) (tries : ℕ) (c : Caller
 
 -- So is each call of the list. It begins with what the client's seat knew at the end of the call before, so its point
 -- is not before that of the other one.
-abbrev pub AreAnswered : Meanings → Type 0 → ℕ → Caller → Seated → List Call → List (Result Replied Refusal)
-    → Seated → Caller → Type 0
+abbrev pub AreAnswered : Meanings → Type 0 → ℕ → Caller → SeatState → List Call → List (Result Replied Refusal)
+    → SeatState → Caller → Type 0
 AreAnswered means reused tries c old [] [] new end = (new ≡ old) × (end ≡ c)
 AreAnswered means reused tries c old [] (r ∷ rs) new end = ⊥
 AreAnswered means reused tries c old (x ∷ xs) [] new end = ⊥
 AreAnswered means reused tries c old (x ∷ xs) (r ∷ rs) new end =
-    (mid : Seated) × IsMade means reused tries c x r old mid
+    (mid : SeatState) × IsMade means reused tries c x r old mid
     × AreAnswered means reused tries (caller_after c r) mid xs rs new end
 
 -- how often other seats have moved the head

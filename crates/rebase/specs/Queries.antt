@@ -13,7 +13,7 @@ use Rattle.head_word.specs.declared.entry.Entry.{Entry}
 use Rattle.head_word.specs.Books.{record_of}
 use Rattle.head_word.specs.Marks.{Known}
 use Rattle.map_chunks.specs.Sinks.{HasBegun, HasStill}
-use Rattle.answered.specs.Answered.{IsPoint}
+use Rattle.linearized.specs.Answered.{IsPoint}
 use Rattle.push_body.specs.Bodies.{pull_text}
 use Rattle.push_body.specs.declared.identities.Identity.{Identity}
 use Rattle.rebase.specs.declared.tickets.Ticket.{Ticket}
@@ -29,13 +29,13 @@ GaveSome means has old new scan sink given = HasStill has sink given ⊎ ((log :
     × IsPoint means old new None log × HasBegun has sink given (view_rows means (after (record_of log)) scan))
 
 -- what a pull asks for: all that came after this cookie, by a request with this body
-pub record Asked : Type 0 where
+pub record AskedQuery : Type 0 where
   pub cookie : Cookie
   pub body : Bytes
 
 -- as a ticket has it, and as it is right at a state
-abbrev pub asked : Ticket → Asked
+abbrev pub asked : Ticket → AskedQuery
 asked ticket = record { cookie = ticket.cookie; body = ticket.body.items }
 
-abbrev pub asked_at : Identity → State → Asked
+abbrev pub asked_at : Identity → State → AskedQuery
 asked_at identity s = record { cookie = s.cookie; body = pull_text identity s.cookie }

@@ -4,9 +4,9 @@ use Rattle.group_history.specs.declared.mutations.Mutation.{Mutation}
 use Rattle.group_history.specs.declared.responses.Ended.{Ended}
 use Rattle.group_history.specs.Cookies.{Cookie}
 use Rattle.group_history.specs.Map.{Bytes}
-use Rattle.rebase.specs.declared.calls.Reply.{Reply}
-use Rattle.rebase.specs.declared.calls.Reply.TheVariants as reply
-use Rattle.rebase.specs.Queries.{Asked, asked}
+use Rattle.rebase.specs.declared.calls.CallReply.{CallReply}
+use Rattle.rebase.specs.declared.calls.CallReply.TheVariants as reply
+use Rattle.rebase.specs.Queries.{AskedQuery, asked}
 
 pub data Replied : Type 0 where
   value : Option Bytes → Replied
@@ -16,11 +16,11 @@ pub data Replied : Type 0 where
   cookie : Cookie → Replied
   id : ℕ → Replied
   body : Bytes → Replied
-  ticket : Asked → Replied
+  ticket : AskedQuery → Replied
   ended : Ended → Replied
 
 -- a reply of the code as clauses see it
-abbrev pub reply_seen : Reply → Replied
+abbrev pub reply_seen : CallReply → Replied
 reply_seen (reply.Value v) = value v
 reply_seen (reply.Is b) = yes_or_no b
 reply_seen (reply.Rows rs) = rows rs.items

@@ -16,19 +16,19 @@ use Rattle.group_history.specs.Pulling.{after_pull, end_reply}
 use Rattle.group_history.specs.Record.{IsAccepted, after, after_change}
 use Rattle.group_history.specs.State.{State, last_id, replayed, view_of}
 use Rattle.head_word.specs.declared.entry.Entry.{Entry}
-use Rattle.answered.specs.Answered.{IsLinearized}
+use Rattle.linearized.specs.Answered.{IsLinearized}
 use Rattle.head_word.specs.Books.{record_of}
 use Rattle.pull_patch.specs.Grammar.{answer_to}
-use Rattle.answered.specs.Changes.{change_applied, change_closing, change_made, change_read}
+use Rattle.linearized.specs.Changes.{change_applied, change_closing, change_made, change_read}
 use Rattle.commit_graph.specs.Seats.{HasLooked}
-use Rattle.group_steps.specs.Causes.{HasCause}
-use Rattle.group_steps.specs.Leaving.{Frees, spared}
-use Rattle.group_steps.specs.Missing.{map_ok}
-use Rattle.group_steps.specs.Runs.{map_by, with_more}
-use Rattle.group_steps.specs.Tries.{IsArrivedSince}
+use Rattle.change_tries.specs.Causes.{HasCause}
+use Rattle.change_tries.specs.Leaving.{Frees, spared}
+use Rattle.change_tries.specs.Missing.{map_ok}
+use Rattle.change_tries.specs.Runs.{map_by, with_more}
+use Rattle.change_tries.specs.Tries.{IsArrivedSince}
 use Rattle.rebase.specs.Asking.{change_wanted, end_bytes_reply}
 use Rattle.rebase.specs.Calls.{ended_in, id_in, last_after}
-use Rattle.rebase.specs.Clients.{Acts, ClientState, IsSameClient}
+use Rattle.rebase.specs.Clients.{AfterChange, ClientState, IsSameClient}
 use Rattle.rebase.specs.Replies.{Replied, ended, id}
 
 -- A change that is under way: its client, whose pin is held; the change; the mutation whose mutator is to be run, the
@@ -91,13 +91,13 @@ IsFirstAt has s (Pulled ticket r) asking = (own : List Mutation) × AreOwn has o
     × (own ++ asking.mutation ∷ asking.behind ≡ (after_pull s r).pending)
 IsFirstAt has s Closed asking = Unit {0}
 
-abbrev pub IsFirst : (Bytes → Bool) → UnderWay → Type 0
-IsFirst has asking = IsFirstAt has (after (record_of asking.seen)) asking.change asking
+abbrev pub IsFirstAsked : (Bytes → Bool) → UnderWay → Type 0
+IsFirstAsked has asking = IsFirstAt has (after (record_of asking.seen)) asking.change asking
 
 -- What is asked for after a run that ended so: the next run of the same try; or the try was lost, and a later one asks
 -- for its first run.
 abbrev pub Follows : (Bytes → Bool) → Meanings → UnderWay → Ran → UnderWay → Type 0
-Follows has means was ran now = IsNextRun has means was ran now ⊎ ((was.lost < now.lost) × IsFirst has now)
+Follows has means was ran now = IsNextRun has means was ran now ⊎ ((was.lost < now.lost) × IsFirstAsked has now)
 
 -- Nothing is written yet: the map is the one where the run begins. And the group has no mutator of this name.
 abbrev pub IsUnwritten : (Bytes → Bool) → UnderWay → Type 0
@@ -136,7 +136,7 @@ pub record EndsCall (means : Meanings) (reused : Type 0) (tries : ℕ) (before a
   pub answer : IsLinearized means tries before.seat.mark after.seat.mark reply (change_replied change)
       (λ s. change_reply means s before.last change)
   pub last : after.last ≡ last_called before.last change reply
-  pub acts : Acts reused before after
+  pub acts : AfterChange reused before after
   pub cause : IfErr reply (HasCause means reused before.last (Some change) before.seat after.seat)
   pub frees : reused → Frees (Some change) (spared reply) before.seat after.seat (change_replied change reply)
 
@@ -147,7 +147,7 @@ pub record EndsPull (means : Meanings) (reused : Type 0) (tries : ℕ) (before a
       (λ r. change_read ticket (answer_to body) (map_ok ended_in r))
       (λ s. map_ok ended (end_bytes_reply s ticket.text body))
   pub last : after.last ≡ before.last
-  pub acts : Acts reused before after
+  pub acts : AfterChange reused before after
   pub cause : IfErr reply (HasCause means reused before.last (change_wanted ticket (answer_to body)) before.seat
       after.seat)
   pub frees : reused → Frees (change_wanted ticket (answer_to body)) (spared reply) before.seat after.seat

@@ -12,27 +12,27 @@ ghost use Rattle.group_history.specs.Ran.{RunsAs};
 ghost use Rattle.group_history.specs.Scans.{rows_of};
 ghost use Rattle.head_word.specs.Books.{drawn, last_move};
 ghost use Rattle.commit_graph.specs.Seats.{IsSameSeat};
-ghost use Rattle.answered.specs.Answered.{own_moves};
-ghost use Rattle.group_steps.specs.Tries.{IsFound, IsProgress, TellsProgress};
-ghost use Rattle.group_steps.specs.Leaving.{Frees};
-ghost use Rattle.group_steps.specs.Missing.{IsMissedOrDry, map_ok};
-ghost use Rattle.group_steps.specs.Places.{place};
-ghost use Rattle.group_steps.specs.Proposing.{AsksNext};
-ghost use Rattle.rebase.specs.Clients.{Acts, ClientState, IsSameClient};
+ghost use Rattle.linearized.specs.Answered.{own_moves};
+ghost use Rattle.change_tries.specs.Tries.{IsFoundMade, IsProgress, TellsProgress};
+ghost use Rattle.change_tries.specs.Leaving.{Frees};
+ghost use Rattle.change_tries.specs.Missing.{IsStoreOrMemory, map_ok};
+ghost use Rattle.change_tries.specs.Places.{place};
+ghost use Rattle.change_tries.specs.Proposing.{AsksNext};
+ghost use Rattle.rebase.specs.Clients.{AfterChange, ClientState, IsSameClient};
 ghost use Rattle.rebase.specs.Inside.Made.{reply_made};
 ghost use Rattle.rebase.specs.Inside.Shown.{IsShown};
 ghost use Rattle.rebase.specs.Replies.{reply_seen};
 ghost use Rattle.rebase.specs.Running.{BeganAs, EndsCall, Follows, IsAsked, IsUnwritten};
 ghost use Rattle.rebase.specs.Running.{last_called};
 
-use crate::calls::Reply;
+use crate::calls::CallReply;
 use crate::changes::ended_as;
 use crate::client::Client;
+use change_drafts::Runs;
+use change_tries::{At, Attempt, Progress, del, get, put, ran_from, scan};
 use chunk_slots::{Arena, Slots, Store};
 use commit_graph::LastId;
 use group_history::{Change, Json, Means, Mutation, Ran, Ref, Refusal, Scan, Text};
-use group_steps::{At, Attempt, Progress, del, get, put, ran_from, scan};
-use replays::Runs;
 use std::marker::Model;
 
 /// A change that asks for a run of a mutator. It has its client until it ends, and the client's seat is pinned. It
@@ -51,10 +51,10 @@ impl<M: Means, S: Slots<M>> Model for Asking<M, S> {
     ghost use Rattle.group_history.specs.contracts.mutations.Mutation as the_mutation;
     ghost use Rattle.head_word.specs.contracts.entry.Entry as entry;
     ghost use Rattle.head_word.specs.Books.{drawn};
-    ghost use Rattle.group_steps.specs.Proposing.{AsksNext};
-    ghost use Rattle.group_steps.specs.Rooting.{entries_coded};
-    ghost use Rattle.group_steps.specs.Runs.{run_map, run_start};
-    ghost use Rattle.group_steps.specs.Tries.{IsAttempt};
+    ghost use Rattle.change_tries.specs.Proposing.{AsksNext};
+    ghost use Rattle.change_tries.specs.Rooting.{entries_coded};
+    ghost use Rattle.change_tries.specs.Runs.{run_map, run_start};
+    ghost use Rattle.change_tries.specs.Tries.{IsAttempt};
     ghost use Rattle.rebase.specs.Running.{UnderWay};
 
     ghost Value = { UnderWay };
@@ -85,28 +85,28 @@ pub enum Asked<M: Means, S: Slots<M>> {
     Run(Asking<M, S>),
 
     /// The end of the call, and the client again.
-    Ended(Client<M, S>, Result<Reply, Refusal>),
+    Ended(Client<M, S>, Result<CallReply, Refusal>),
 }
 
 impl<M: Runs, S: Store<M>> Client<M, S> {
-    ghost use Rattle.rebase.specs.Asked.{Tells};
+    ghost use Rattle.rebase.specs.Asked.{TellsAsked};
 
     // What is replied where the change came to this.
     fn end_change(
         &mut self,
         change: &Change,
         made: Result<Option<Ref>, Refusal>,
-    ) -> Result<Reply, Refusal>
+    ) -> Result<CallReply, Refusal>
         requires asks { AsksNext self.old.id self.old.last change.now }
-        requires found { IsFound (drawn self.old.seat.mark.log) change.now made }
+        requires found { IsFoundMade (drawn self.old.seat.mark.log) change.now made }
         ensures reply { map_ok reply_seen result ≡ reply_made self.old.last change.now made }
         ensures last { self.new.last ≡ last_called self.old.last change.now (map_ok reply_seen result) }
         ensures seat { self.new.seat ≡ self.old.seat }
         ensures same { IsSameClient self.old self.new }
     {
         match change {
-            Change::Mutated(_) => self.keep_next(made).map(Reply::Id),
-            Change::Pulled(_, _) => ended_as(made).map(Reply::Ended),
+            Change::Mutated(_) => self.keep_next(made).map(CallReply::Id),
+            Change::Pulled(_, _) => ended_as(made).map(CallReply::Ended),
             Change::Closed => match made {
                 Ok(_) => Err(Refusal::StateNotFound),
                 Err(e) => Err(e),
@@ -122,10 +122,10 @@ impl<M: Runs, S: Store<M>> Client<M, S> {
         ensures told { (before : ClientState) → IsSameClient before self → self.last ≡ before.last
             → IsSameSeat before.seat self.seat
             → TellsProgress M.means S.reused tries before.seat self.seat before.last change progress
-            → Tells result (IsAsked M.means S.reused tries before change) (λ client reply.
+            → TellsAsked result (IsAsked M.means S.reused tries before change) (λ client reply.
             EndsCall M.means S.reused tries before client change (map_ok reply_seen reply)) }
-        ensures shown { Tells result (IsShown self change tries progress) (λ client reply. Unit {0}) }
-        ensures fresh { Tells result (IsUnwritten M.has) (λ client reply. Unit {0}) }
+        ensures shown { TellsAsked result (IsShown self change tries progress) (λ client reply. Unit {0}) }
+        ensures fresh { TellsAsked result (IsUnwritten M.has) (λ client reply. Unit {0}) }
     {
         let mut client = self;
         let _ = &client.group;
@@ -177,7 +177,7 @@ impl<M: Means, S: Store<M>> Asking<M, S> {
     /// slots that are used again `Busy`.
     pub fn get(&self, key: &str) -> Result<Option<Json>, Refusal>
         ensures value { IfOk result (λ found. found ≡ finite.get self.now.map key.now) }
-        ensures err { IfErr result (IsMissedOrDry S.reused) }
+        ensures err { IfErr result (IsStoreOrMemory S.reused) }
     {
         get(&self.here(), self.attempt.run.as_run(), key)
     }
@@ -185,7 +185,7 @@ impl<M: Means, S: Store<M>> Asking<M, S> {
     /// The pairs of the run's map that the scan asks for, in the order of their keys. Refused as `get` is.
     pub fn scan(&self, rows: &Scan) -> Result<Vec<(Text, Json)>, Refusal>
         ensures rows { IfOk result (λ found. found.items ≡ rows_of rows.now self.now.map) }
-        ensures err { IfErr result (IsMissedOrDry S.reused) }
+        ensures err { IfErr result (IsStoreOrMemory S.reused) }
     {
         scan(&self.here(), self.attempt.run.as_run(), rows)
     }
@@ -195,7 +195,7 @@ impl<M: Means, S: Store<M>> Asking<M, S> {
         ensures ok { OnOk result (self.new
             ≡ record self.old { map = finite.insert self.old.map key.now value.now }) }
         ensures left { OnErr result (self.new ≡ self.old) }
-        ensures err { IfErr result (IsMissedOrDry S.reused) }
+        ensures err { IfErr result (IsStoreOrMemory S.reused) }
     {
         let client = &self.client;
         let arrival = &self.attempt.arrival;
@@ -214,7 +214,7 @@ impl<M: Means, S: Store<M>> Asking<M, S> {
     pub fn del(&mut self, key: &str) -> Result<(), Refusal>
         ensures ok { OnOk result (self.new ≡ record self.old { map = finite.remove self.old.map key.now }) }
         ensures left { OnErr result (self.new ≡ self.old) }
-        ensures err { IfErr result (IsMissedOrDry S.reused) }
+        ensures err { IfErr result (IsStoreOrMemory S.reused) }
     {
         let client = &self.client;
         let arrival = &self.attempt.arrival;
@@ -231,7 +231,7 @@ impl<M: Means, S: Store<M>> Asking<M, S> {
     /// Gives the change up: nothing was changed. Takes no memory.
     pub fn give_up(self) -> Client<M, S>
         ensures left { (before : ClientState) → BeganAs M.means S.reused before self
-            → Acts S.reused before result × (result.last ≡ before.last)
+            → AfterChange S.reused before result × (result.last ≡ before.last)
             × (own_moves result.seat.mark ≡ own_moves before.seat.mark)
             × (S.reused → Frees (Some self.change) 0 before.seat result.seat None) }
     {
@@ -250,7 +250,7 @@ impl<M: Means, S: Store<M>> Asking<M, S> {
 }
 
 impl<M: Runs, S: Store<M>> Asking<M, S> {
-    ghost use Rattle.rebase.specs.Asked.{Tells};
+    ghost use Rattle.rebase.specs.Asked.{TellsAsked};
 
     /// Says how the run ended. What was done to its map is what the group's mutator of that name does there, on those
     /// arguments, for that reason; and where that refuses or there is none, the run ends as that says. Then the next
@@ -260,10 +260,10 @@ impl<M: Runs, S: Store<M>> Asking<M, S> {
     pub fn ran(self, ran: Ran) -> Asked<M, S>
         requires runs { RunsAs (meaning_of M.means self.mutation self.start) ran self.map }
         ensures told { (before : ClientState) → BeganAs M.means S.reused before self
-            → Tells result (IsAsked M.means S.reused self.tries before self.change) (λ client reply.
+            → TellsAsked result (IsAsked M.means S.reused self.tries before self.change) (λ client reply.
             EndsCall M.means S.reused self.tries before client self.change (map_ok reply_seen reply)) }
-        ensures next { Tells result (Follows M.has M.means self ran) (λ client reply. Unit {0}) }
-        ensures fresh { Tells result (IsUnwritten M.has) (λ client reply. Unit {0}) }
+        ensures next { TellsAsked result (Follows M.has M.means self ran) (λ client reply. Unit {0}) }
+        ensures fresh { TellsAsked result (IsUnwritten M.has) (λ client reply. Unit {0}) }
     {
         let Asking {
             client,
@@ -297,7 +297,7 @@ impl<M: Means> Asking<M, Arena<M>> {
     /// Gives the change up, as `give_up` does. It asks for no bound that other threads rely on, so a drop can call it.
     pub fn abandon(self) -> Client<M, Arena<M>>
         ensures left { (before : ClientState) → BeganAs M.means ⊤ before self
-            → Acts ⊤ before result × (result.last ≡ before.last)
+            → AfterChange ⊤ before result × (result.last ≡ before.last)
             × (own_moves result.seat.mark ≡ own_moves before.seat.mark)
             × Frees (Some self.change) 0 before.seat result.seat None }
     {

@@ -7,28 +7,29 @@ ghost use Rattle.group_history.specs.Map.{Bytes};
 ghost use Rattle.group_history.specs.Pull.{Pull};
 ghost use Rattle.group_history.specs.State.{made};
 ghost use Rattle.pull_patch.specs.Grammar.{answer_to};
-ghost use Rattle.group_steps.specs.Missing.{map_ok};
-ghost use Rattle.group_steps.specs.Proposing.{AsksNext};
-ghost use Rattle.rebase.specs.Clients.{Stays};
+ghost use Rattle.change_tries.specs.Missing.{map_ok};
+ghost use Rattle.change_tries.specs.Proposing.{AsksNext};
+ghost use Rattle.rebase.specs.Clients.{AfterQuery};
 ghost use Rattle.rebase.specs.Replies.{reply_seen};
-ghost use Rattle.rebase.specs.Running.{EndsCall, EndsPull, IsAsked, IsFirst, IsUnwritten};
+ghost use Rattle.rebase.specs.Running.{EndsCall, EndsPull, IsAsked, IsFirstAsked, IsUnwritten};
 
 use crate::asking::Asked;
-use crate::calls::Reply;
+use crate::calls::CallReply;
 use crate::client::Client;
 use crate::tickets::Ticket;
+use change_drafts::Runs;
+use change_tries::ask_from;
 use chunk_slots::Store;
 use commit_graph::LastId;
 use group_history::{Change, Json, Mutation, PullOk, Refusal, Response, Text, VersionKind};
-use group_steps::ask_from;
-use replays::Runs;
 
 impl<M: Runs, S: Store<M>> Client<M, S> {
-    ghost use Rattle.rebase.specs.Asked.{Tells};
+    ghost use Rattle.rebase.specs.Asked.{TellsAsked};
 
     // Refuses the call before it did anything.
     fn refuse_asked(self, e: Refusal) -> Asked<M, S>
-        ensures told { Tells result (λ asking. ⊥) (λ client reply. (reply ≡ Err e) × Stays S.reused self client
+        ensures told { TellsAsked result (λ asking. ⊥)
+            (λ client reply. (reply ≡ Err e) × AfterQuery S.reused self client
             × (client.seat.mark ≡ self.seat.mark)) }
     {
         let mut client = self;
@@ -39,10 +40,10 @@ impl<M: Runs, S: Store<M>> Client<M, S> {
     // Begins a change.
     fn ask(self, change: Change, tries: u32) -> Asked<M, S>
         requires next { AsksNext self.id self.last change }
-        ensures told { Tells result (IsAsked M.means S.reused tries self change) (λ client reply.
+        ensures told { TellsAsked result (IsAsked M.means S.reused tries self change) (λ client reply.
             EndsCall M.means S.reused tries self client change (map_ok reply_seen reply)) }
-        ensures first { Tells result (IsFirst M.has) (λ client reply. Unit {0}) }
-        ensures fresh { Tells result (IsUnwritten M.has) (λ client reply. Unit {0}) }
+        ensures first { TellsAsked result (IsFirstAsked M.has) (λ client reply. Unit {0}) }
+        ensures fresh { TellsAsked result (IsUnwritten M.has) (λ client reply. Unit {0}) }
     {
         let mut client = self;
         let mut found = LastId {
@@ -65,12 +66,12 @@ impl<M: Runs, S: Store<M>> Client<M, S> {
     /// Makes a mutation whose mutator the caller runs. It asks for that run, anew where others moved the head first,
     /// and ends as `try_mutate` does, with `Reply::Id`.
     pub fn ask_mutate(self, name: &Text, args: &Json, time: u64, tries: u32) -> Asked<M, S>
-        ensures told { Tells result
+        ensures told { TellsAsked result
             (IsAsked M.means S.reused tries self (Mutated (made self.id (self.last + 1) name.now args.now time)))
             (λ client reply. EndsCall M.means S.reused tries self client
             (Mutated (made self.id (self.last + 1) name.now args.now time)) (map_ok reply_seen reply)) }
-        ensures first { Tells result (IsFirst M.has) (λ client reply. Unit {0}) }
-        ensures fresh { Tells result (IsUnwritten M.has) (λ client reply. Unit {0}) }
+        ensures first { TellsAsked result (IsFirstAsked M.has) (λ client reply. Unit {0}) }
+        ensures fresh { TellsAsked result (IsUnwritten M.has) (λ client reply. Unit {0}) }
     {
         match Mutation::new(&self.id, self.last + 1, name, args, time) {
             Ok(mutation) => {
@@ -84,11 +85,11 @@ impl<M: Runs, S: Store<M>> Client<M, S> {
 
     // Ends a pull that brought no error.
     fn ask_pulled(self, ticket: &Ticket, pull: PullOk, tries: u32) -> Asked<M, S>
-        ensures told { Tells result (IsAsked M.means S.reused tries self (Pulled ticket.now.cookie pull))
+        ensures told { TellsAsked result (IsAsked M.means S.reused tries self (Pulled ticket.now.cookie pull))
             (λ client reply. EndsCall M.means S.reused tries self client (Pulled ticket.now.cookie pull)
             (map_ok reply_seen reply)) }
-        ensures first { Tells result (IsFirst M.has) (λ client reply. Unit {0}) }
-        ensures fresh { Tells result (IsUnwritten M.has) (λ client reply. Unit {0}) }
+        ensures first { TellsAsked result (IsFirstAsked M.has) (λ client reply. Unit {0}) }
+        ensures fresh { TellsAsked result (IsUnwritten M.has) (λ client reply. Unit {0}) }
     {
         match ticket.cookie.clone() {
             Ok(cookie) => {
@@ -104,11 +105,11 @@ impl<M: Runs, S: Store<M>> Client<M, S> {
     // Ends a pull whose server does not support a version.
     fn ask_unsupported(self, kind: VersionKind, tries: u32) -> Asked<M, S>
         ensures told { (ticket : Cookied) (body : Bytes) → answer_to body ≡ Ok (response.VersionNotSupported kind)
-            → Tells result (λ asking. ⊥) (λ client reply. EndsPull M.means S.reused tries self client ticket body
+            → TellsAsked result (λ asking. ⊥) (λ client reply. EndsPull M.means S.reused tries self client ticket body
             (map_ok reply_seen reply)) }
     {
         let mut client = self;
-        let reply = client.end_unsupported(kind, tries).map(Reply::Ended);
+        let reply = client.end_unsupported(kind, tries).map(CallReply::Ended);
         Asked::Ended(client, reply)
     }
 
@@ -116,12 +117,12 @@ impl<M: Runs, S: Store<M>> Client<M, S> {
     /// oldest mutation first, and for all anew where others moved the head first, and ends as `try_end_pull` does, with
     /// `Reply::Ended`: at once where no run is needed, as by an error response.
     pub fn ask_end_pull(self, ticket: &Ticket, body: &[u8], tries: u32) -> Asked<M, S>
-        ensures told { Tells result (λ asking. (r : Pull) × (answer_to body.now ≡ Ok (response.Ok r))
+        ensures told { TellsAsked result (λ asking. (r : Pull) × (answer_to body.now ≡ Ok (response.Ok r))
             × IsAsked M.means S.reused tries self (Pulled ticket.now.cookie r) asking)
             (λ client reply. EndsPull M.means S.reused tries self client ticket.now.cookie body.now
             (map_ok reply_seen reply)) }
-        ensures first { Tells result (IsFirst M.has) (λ client reply. Unit {0}) }
-        ensures fresh { Tells result (IsUnwritten M.has) (λ client reply. Unit {0}) }
+        ensures first { TellsAsked result (IsFirstAsked M.has) (λ client reply. Unit {0}) }
+        ensures fresh { TellsAsked result (IsUnwritten M.has) (λ client reply. Unit {0}) }
     {
         match self.response_in(body) {
             Ok(Response::Ok(pull)) => {

@@ -47,7 +47,7 @@ pub enum Call<'a> {
 
 /// What a call replies.
 #[derive(Drop)]
-pub enum Reply {
+pub enum CallReply {
     /// None where the key is not there.
     Value(Option<Json>),
     /// The answer to whether something is so.

@@ -14,26 +14,26 @@ ghost use Rattle.group_history.specs.Answers.{AnswersOrNoMemory as Reads};
 ghost use Rattle.head_word.specs.Books.{IsOpened, drawn};
 ghost use Rattle.commit_graph.specs.LastIds.{last_at};
 ghost use Rattle.pull_patch.specs.Grammar.{answer_to};
-ghost use Rattle.answered.specs.Answered.{IsLinearized, no_change};
-ghost use Rattle.answered.specs.Changes.{change_applied, change_closing, change_made, change_read};
-ghost use Rattle.group_steps.specs.Causes.{HasCause};
-ghost use Rattle.group_steps.specs.Leaving.{Frees, FreesAnew, spared};
-ghost use Rattle.group_steps.specs.Missing.{map_ok};
-ghost use Rattle.group_steps.specs.Changing.{ended_as, is_made};
-ghost use Rattle.group_steps.specs.Proposing.{AsksNext, HasLast, asked_reply, change_asked};
+ghost use Rattle.linearized.specs.Answered.{IsLinearized, no_change};
+ghost use Rattle.linearized.specs.Changes.{change_applied, change_closing, change_made, change_read};
+ghost use Rattle.change_tries.specs.Causes.{HasCause};
+ghost use Rattle.change_tries.specs.Leaving.{Frees, FreesAnew, spared};
+ghost use Rattle.change_tries.specs.Missing.{map_ok};
+ghost use Rattle.change_tries.specs.Changing.{ended_as, is_made};
+ghost use Rattle.change_tries.specs.Proposing.{AsksNext, HasLast, asked_reply, change_asked};
 ghost use Rattle.rebase.specs.Asking.{change_wanted, end_bytes_reply, is_passing};
 ghost use Rattle.commit_graph.specs.Seats.{HasLooked};
-ghost use Rattle.rebase.specs.Clients.{Acts, IsSameClient, Stays};
+ghost use Rattle.rebase.specs.Clients.{AfterChange, IsSameClient, AfterQuery};
 
 use crate::client::Client;
 use crate::tickets::Ticket;
+use change_tries::{SharedGroup, closed_at, make_change};
 use chunk_slots::Store;
 use commit_graph::LastId;
 use group_history::{
     Change, Cookie, Ended, Json, Means, Mutation, Mutators, PullOk, Ref, Refusal, Response, Text,
     VersionKind,
 };
-use group_steps::{SharedGroup, closed_at, make_change};
 use pull_patch::read_response;
 use std::sync::Wait;
 
@@ -85,7 +85,7 @@ impl<M: Means, S: Store<M>> Client<M, S> {
         ensures answer { (ticket : Bytes) → IsLinearized M.means tries self.old.seat.mark self.new.seat.mark result
             no_change
             (λ s. end_reply s ticket (response.VersionNotSupported kind)) }
-        ensures stays { Stays S.reused self.old self.new }
+        ensures stays { AfterQuery S.reused self.old self.new }
         ensures cause { IfErr result (HasCause M.means S.reused self.old.last None
             self.old.seat self.new.seat) }
     {
@@ -117,7 +117,7 @@ impl<M: Mutators, S: Store<M>> Client<M, S> {
             (change_asked change)
             (λ s. asked_reply M.means s self.old.last change) }
         ensures found { IfOk result (λ made. IfSome made (λ at. HasLast (drawn self.new.seat.mark.log) at change)) }
-        ensures acts { Acts S.reused self.old self.new × (self.new.last ≡ self.old.last) }
+        ensures acts { AfterChange S.reused self.old self.new × (self.new.last ≡ self.old.last) }
         ensures cause { IfErr result (HasCause M.means S.reused self.old.last (Some change)
             self.old.seat self.new.seat) }
         ensures frees { S.reused → Frees (Some change) (spared result) self.old.seat self.new.seat
@@ -153,7 +153,7 @@ impl<M: Mutators, S: Store<M>> Client<M, S> {
             (λ s. mutate_reply M.means s self.old.last (made self.old.id (self.old.last + 1) name.now args.now time)) }
         ensures last { IfOk result (λ id. (id ≡ self.old.last + 1) × (self.new.last ≡ id)) }
         ensures left { IfErr result (λ _. self.new.last ≡ self.old.last) }
-        ensures acts { Acts S.reused self.old self.new }
+        ensures acts { AfterChange S.reused self.old self.new }
         ensures cause { IfErr result (HasCause M.means S.reused self.old.last
             (Some (Mutated (made self.old.id (self.old.last + 1) name.now args.now time)))
             self.old.seat self.new.seat) }
@@ -177,7 +177,7 @@ impl<M: Mutators, S: Store<M>> Client<M, S> {
         ensures answer { IsLinearized M.means tries self.old.seat.mark self.new.seat.mark result
             (change_applied ticket.now pull)
             (λ s. end_reply s ticket.now.text (response.Ok pull)) }
-        ensures acts { Acts S.reused self.old self.new × (self.new.last ≡ self.old.last) }
+        ensures acts { AfterChange S.reused self.old self.new × (self.new.last ≡ self.old.last) }
         ensures cause { IfErr result (HasCause M.means S.reused self.old.last (Some (Pulled ticket.now pull))
             self.old.seat self.new.seat) }
         ensures frees { S.reused → Frees (Some (Pulled ticket.now pull)) (spared result) self.old.seat self.new.seat
@@ -197,7 +197,7 @@ impl<M: Mutators, S: Store<M>> Client<M, S> {
         ensures answer { (ticket : Bytes) → IsLinearized M.means tries self.old.seat.mark self.new.seat.mark result
             change_closing
             (λ s. end_reply s ticket response.StateNotFound) }
-        ensures acts { Acts S.reused self.old self.new × (self.new.last ≡ self.old.last) }
+        ensures acts { AfterChange S.reused self.old self.new × (self.new.last ≡ self.old.last) }
         ensures cause { IfErr result (HasCause M.means S.reused self.old.last (Some Closed)
             self.old.seat self.new.seat) }
         ensures frees { S.reused → Frees (Some Closed) (spared result) self.old.seat self.new.seat
@@ -228,7 +228,7 @@ impl<M: Mutators, S: Store<M>> Client<M, S> {
         ensures answer { IsLinearized M.means tries self.old.seat.mark self.new.seat.mark result
             (change_read ticket.now.cookie (answer_to body.now))
             (λ s. end_bytes_reply s ticket.now.cookie.text body.now) }
-        ensures acts { Acts S.reused self.old self.new × (self.new.last ≡ self.old.last) }
+        ensures acts { AfterChange S.reused self.old self.new × (self.new.last ≡ self.old.last) }
         ensures cause { IfErr result (HasCause M.means S.reused self.old.last
             (change_wanted ticket.now.cookie (answer_to body.now))
             self.old.seat self.new.seat) }
@@ -271,7 +271,7 @@ impl<M: Mutators, S: Store<M>> Client<M, S> {
         ensures lasting { is_passing result ≡ false }
         ensures last { IfOk result (λ id. (id ≡ self.old.last + 1) × (self.new.last ≡ id)) }
         ensures left { IfErr result (λ _. self.new.last ≡ self.old.last) }
-        ensures acts { Acts S.reused self.old self.new }
+        ensures acts { AfterChange S.reused self.old self.new }
         ensures cause { IfErr result (HasCause M.means S.reused self.old.last
             (Some (Mutated (made self.old.id (self.old.last + 1) name.now args.now time)))
             self.old.seat self.new.seat) }
@@ -301,7 +301,7 @@ impl<M: Mutators, S: Store<M>> Client<M, S> {
             (change_read ticket.now.cookie (answer_to body.now))
             (λ s. end_bytes_reply s ticket.now.cookie.text body.now) }
         ensures lasting { is_passing result ≡ false }
-        ensures acts { Acts S.reused self.old self.new × (self.new.last ≡ self.old.last) }
+        ensures acts { AfterChange S.reused self.old self.new × (self.new.last ≡ self.old.last) }
         ensures cause { IfErr result (HasCause M.means S.reused self.old.last
             (change_wanted ticket.now.cookie (answer_to body.now))
             self.old.seat self.new.seat) }

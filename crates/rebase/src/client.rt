@@ -17,22 +17,22 @@ ghost use Rattle.chunk_slots.specs.Seats.{IsIdle};
 ghost use Rattle.commit_graph.specs.LastIds.{last_at};
 ghost use Rattle.commit_graph.specs.Seats.{HasLooked, IsSeatOf, is_held};
 ghost use Rattle.push_body.specs.Bodies.{pull_text, push_text};
-ghost use Rattle.answered.specs.Answered.{IsLinearized, IsPoint, no_change};
-ghost use Rattle.answered.specs.Trying.{IsBase};
-ghost use Rattle.group_steps.specs.Missing.{IsStoreRefusal, IsMissedOrDry, map_ok};
-ghost use Rattle.group_steps.specs.Places.{place};
-ghost use Rattle.rebase.specs.Clients.{IsSameClient, Looks, Reads, Stays};
+ghost use Rattle.linearized.specs.Answered.{IsLinearized, IsPoint, no_change};
+ghost use Rattle.linearized.specs.Trying.{IsBase};
+ghost use Rattle.change_tries.specs.Missing.{IsStoreRefusal, IsStoreOrMemory, map_ok};
+ghost use Rattle.change_tries.specs.Places.{place};
+ghost use Rattle.rebase.specs.Clients.{IsSameClient, AfterLook, AfterRead, AfterQuery};
 ghost use Rattle.rebase.specs.Queries.{asked, asked_at};
 
 use crate::reading::Point;
 use crate::seats::Seat;
 use crate::tickets::Ticket;
-use chunk_slots::{Arena, Slots};
-use commit_graph::{LastId, Seat as ClientSeat, Shared};
-use group_history::{Cookie, Means, Ref, Refusal, Text};
-use group_steps::{
+use change_tries::{
     At, Rooted, SharedGroup, body_at, cookie_at, find_last, pin_and_load, root_at, unpin,
 };
+use chunk_slots::{Arena, Slots};
+use commit_graph::{ClientSeat, LastId, Shared};
+use group_history::{Cookie, Means, Ref, Refusal, Text};
 use head_word::Mark;
 use push_body::{Identity, pull_bytes};
 use reader_claims::SlotCounts;
@@ -86,14 +86,14 @@ impl<M: Means, S: Slots<M>> Model for Client<M, S> {
 impl<M: Means, S: Slots<M>> Client<M, S> {
     // Pins the seat, and looks where the head is.
     pub(crate) fn pin_and_load(&mut self, tries: u32) -> Result<Ref, Refusal>
-        ensures reads { IfOk result (λ _. Reads S.reused tries self.old self.new) }
+        ensures reads { IfOk result (λ _. AfterRead S.reused tries self.old self.new) }
         ensures point { IfOk result (λ _. IsPoint M.means self.old.seat.mark self.new.seat.mark None
             self.new.seat.mark.log) }
         ensures base { IfOk result (λ at. IsBase M.means self.new.seat.mark at
             (after (record_of self.new.seat.mark.log))) }
         ensures last { IfOk result (λ at. at ≡ last_move self.new.seat.mark.log) }
         ensures busy { IfErr result (λ e. (e ≡ Busy) × S.reused × (self.new.seat.mark ≡ self.old.seat.mark)) }
-        ensures stays { IfErr result (λ _. Stays S.reused self.old self.new) }
+        ensures stays { IfErr result (λ _. AfterQuery S.reused self.old self.new) }
     {
         let group: &SharedGroup<M, S> = &self.group;
         let at = pin_and_load(&group.shared, &mut self.seat, tries);
@@ -103,7 +103,7 @@ impl<M: Means, S: Slots<M>> Client<M, S> {
 
     // Takes the pin away.
     pub(crate) fn unpin(&mut self)
-        ensures stays { Stays S.reused self.old self.new }
+        ensures stays { AfterQuery S.reused self.old self.new }
         ensures mark { self.new.seat.mark ≡ self.old.seat.mark }
     {
         let group: &SharedGroup<M, S> = &self.group;
@@ -123,7 +123,7 @@ impl<M: Means, S: Slots<M>> Client<M, S> {
     // Takes the pin away, if there is one, where a call is refused before it did anything.
     pub(crate) fn refuse<T>(&mut self, e: Refusal) -> Result<T, Refusal>
         ensures err { result ≡ Err e }
-        ensures stays { Stays S.reused self.old self.new }
+        ensures stays { AfterQuery S.reused self.old self.new }
         ensures mark { self.new.seat.mark ≡ self.old.seat.mark }
     {
         self.unpin();
@@ -139,7 +139,7 @@ impl<M: Means, S: Slots<M>> Client<M, S> {
             ≡ Some found.id) }
         ensures low { IfOk result (λ found. found.id < 2 ^ 53) }
         ensures missed { IfErr result (IsStoreRefusal S.reused) }
-        ensures stays { Stays S.reused self.old self.new }
+        ensures stays { AfterQuery S.reused self.old self.new }
     {
         let before = LastId {
             at: self.found,
@@ -161,8 +161,8 @@ impl<M: Means, S: Slots<M>> Client<M, S> {
             self.new.seat.mark.log) }
         ensures now { IfOk result (λ body. body.items ≡ push_text self.old.group.identity
             (drop skip (after (record_of self.new.seat.mark.log)).pending)) }
-        ensures err { IfErr result (IsMissedOrDry S.reused) }
-        ensures stays { Stays S.reused self.old self.new }
+        ensures err { IfErr result (IsStoreOrMemory S.reused) }
+        ensures stays { AfterQuery S.reused self.old self.new }
     {
         let (body, _) = self.push_with_moment(skip, tries)?;
         Ok(body)
@@ -178,8 +178,8 @@ impl<M: Means, S: Slots<M>> Client<M, S> {
         ensures now { IfOk result (λ pushed. pushed.0.items ≡ push_text self.old.group.identity
             (drop skip (after (record_of self.new.seat.mark.log)).pending)) }
         ensures moment { IfOk result (λ pushed. pushed.1 ≡ moment self.new.seat.mark.log) }
-        ensures err { IfErr result (IsMissedOrDry S.reused) }
-        ensures stays { Stays S.reused self.old self.new }
+        ensures err { IfErr result (IsStoreOrMemory S.reused) }
+        ensures stays { AfterQuery S.reused self.old self.new }
     {
         let at = self.pin_and_load(tries)?;
         let body = body_at(&self.here(at, tries), skip);
@@ -194,8 +194,8 @@ impl<M: Means, S: Slots<M>> Client<M, S> {
         ensures answer { IsLinearized M.means tries self.old.seat.mark self.new.seat.mark
             (map_ok asked result) no_change
             (λ s. Ok (asked_at self.old.group.identity s)) }
-        ensures err { IfErr result (IsMissedOrDry S.reused) }
-        ensures stays { Stays S.reused self.old self.new }
+        ensures err { IfErr result (IsStoreOrMemory S.reused) }
+        ensures stays { AfterQuery S.reused self.old self.new }
     {
         let at = self.pin_and_load(tries)?;
         let cookie = cookie_at(&self.here(at, tries));
@@ -213,7 +213,7 @@ impl<M: Means, S: Slots<M>> Client<M, S> {
         ensures last { IfOk result (λ id. self.new.last ≡ id) }
         ensures left { IfErr result (λ _. self.new.last ≡ self.old.last) }
         ensures missed { IfErr result (IsStoreRefusal S.reused) }
-        ensures looks { Looks S.reused self.old self.new }
+        ensures looks { AfterLook S.reused self.old self.new }
     {
         let found = self.find(tries)?;
         self.last = found.id;
@@ -237,12 +237,12 @@ impl<M: Means, S: Slots<M>> Client<M, S> {
 
     // Pins the seat, and finds the commit at the head and its root. The pin is taken away where that is refused.
     pub(crate) fn point(&mut self, tries: u32) -> Result<Point<M>, Refusal>
-        ensures reads { IfOk result (λ _. Reads S.reused tries self.old self.new) }
+        ensures reads { IfOk result (λ _. AfterRead S.reused tries self.old self.new) }
         ensures point { IfOk result (λ at. IsPoint M.means self.old.seat.mark self.new.seat.mark None at.log
             × (at.book ≡ self.new.seat.mark.book)) }
         ensures seen { IfOk result (λ at. at ≡ known self.new.seat.mark.book self.new.seat.mark.log None) }
         ensures missed { IfErr result (IsStoreRefusal S.reused) }
-        ensures stays { IfErr result (λ _. Stays S.reused self.old self.new) }
+        ensures stays { IfErr result (λ _. AfterQuery S.reused self.old self.new) }
     {
         let at = self.pin_and_load(tries)?;
         match self.root_of(at, tries) {
@@ -328,7 +328,7 @@ impl<M: Means> Client<M, Arena<M>> {
 
     // Takes the pin away, as `unpin` does.
     pub(crate) fn unpin_arena(&mut self)
-        ensures stays { Stays ⊤ self.old self.new }
+        ensures stays { AfterQuery ⊤ self.old self.new }
         ensures mark { self.new.seat.mark ≡ self.old.seat.mark }
     {
         let group: &SharedGroup<M, Arena<M>> = &self.group;

@@ -7,10 +7,10 @@ ghost use Rattle.rebase.specs.Clients.{AreOpening, AreSeatsOf, grouped};
 
 use crate::config::Config;
 use crate::seats::{Seats, seat_all};
+use change_tries::SharedGroup;
 use chunk_slots::{Slots, Store};
 use commit_graph::Shared;
 use group_history::{Means, Refusal};
-use group_steps::SharedGroup;
 use push_body::Identity;
 use std::alloc::{AllocError, Global};
 use std::marker::Model;

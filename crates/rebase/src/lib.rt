@@ -5,7 +5,7 @@
 //! takes the pin away again. A change is drafted at that commit, its nodes are placed, and the head is moved there;
 //! where others moved it first, it is made anew at the commit where they left it.
 //!
-//! Each call's clause `answer` is `IsLinearized` of `answered`: a right reply at one point of the call. What a call
+//! Each call's clause `answer` is `IsLinearized` of `linearized`: a right reply at one point of the call. What a call
 //! leaves is one word: `Acts` (a change), `Looks`, `Stays` (a query), `Reads` (an open reader). Why a change is refused
 //! with Full, Busy or Stamps is `cause`, what it does to slots `frees`.
 //!
@@ -18,7 +18,7 @@
 //! A call that may wait tries 1,000 times before it begins anew; in between it has no pin and no taken slot. A watch
 //! may be polled by any client of its group: it keeps the rows told last and what was seen of the book then, so at a
 //! root that it met before, and where all chunks are the same in which its rows lie, a poll reads no row; else it reads
-//! only chunks that the last one didn't meet, unless the scan has a limit. A seat that
+//! only chunks that the last one didn't meet, and those at which the scan's limit cuts, one on each level. A seat that
 //! comes back needs the room that it left, so `back` takes no memory. A list of calls says of each what `make_call`
 //! says of one (`IsMade`), but that the client rests in between.
 //! A reader that is kept (`Reader`) has its client: its model is the client's, and its type keeps that the pin is held,
@@ -48,7 +48,8 @@ mod tickets;
 mod watching;
 
 pub use asking::{Asked, Asking};
-pub use calls::{Call, Mutate, Reply};
+pub use calls::{Call, CallReply, Mutate};
+pub use change_drafts::{Has, Runs};
 pub use chunk_slots::{Append, Arena};
 pub use client::Client;
 pub use commit_graph::StoreNodes;
@@ -63,7 +64,6 @@ pub use push_body::Identity;
 pub use reader_claims::SlotCounts;
 pub use readers::Reader;
 pub use reading::ReadTx;
-pub use replays::{Has, Runs};
 pub use seats::{Seat, Seats};
 pub use tickets::Ticket;
 pub use transactions::{ReadTx as CommitTx, TakesRows};

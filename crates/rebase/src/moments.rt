@@ -8,16 +8,16 @@ ghost use Rattle.head_word.specs.declared.entry.Entry.{Entry};
 ghost use Rattle.head_word.specs.Books.{last_move, record_of, IsOpened};
 ghost use Rattle.head_word.specs.Laws.{moment};
 ghost use Rattle.commit_graph.specs.Seats.{HasLooked, IsSeatOf};
-ghost use Rattle.answered.specs.Answered.{IsPoint};
+ghost use Rattle.linearized.specs.Answered.{IsPoint};
 ghost use Rattle.rebase.specs.Clients.{IsSameClient};
 
 use crate::client::Client;
-use answered::look;
+use change_tries::SharedGroup;
 use chunk_slots::Slots;
-use commit_graph::{Seat as ClientSeat, Shared};
+use commit_graph::{ClientSeat, Shared};
 use group_history::{Means, Ref};
-use group_steps::SharedGroup;
 use head_word::book_laws;
+use linearized::look;
 
 impl<M: Means, S: Slots<M>> Client<M, S> {
     /// The moment of the group, below 2^40: two equal numbers are one state, and where the head was moved later the

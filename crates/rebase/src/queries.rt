@@ -4,9 +4,9 @@ ghost use Rattle.std.specs.Borrow.{sem, RestsIfErr};
 ghost use Rattle.group_history.specs.Queries.{view_rows};
 ghost use Rattle.group_history.specs.Rows.{Rows};
 ghost use Rattle.map_chunks.specs.Sinks.{HasMore};
-ghost use Rattle.answered.specs.Answered.{IsLinearized, IsPoint, no_change};
-ghost use Rattle.group_steps.specs.Missing.{IsStoreRefusal, IsMissedOrDry};
-ghost use Rattle.rebase.specs.Clients.{Reads, Stays};
+ghost use Rattle.linearized.specs.Answered.{IsLinearized, IsPoint, no_change};
+ghost use Rattle.change_tries.specs.Missing.{IsStoreRefusal, IsStoreOrMemory};
+ghost use Rattle.rebase.specs.Clients.{AfterRead, AfterQuery};
 ghost use Rattle.rebase.specs.Queries.{GaveSome, gave};
 ghost use Rattle.rebase.specs.Readers.{lent, seen_by};
 ghost use Rattle.rebase.specs.contracts.client.Client.{the_row};
@@ -23,12 +23,12 @@ impl<M: Means, S: Slots<M>> Client<M, S> {
     /// Takes no memory.
     pub fn read(&mut self, tries: u32) -> Result<ReadTx<'_, M, S>, Refusal>
         ensures* rests { sem 𝓛 (RestsIfErr (the_row M.row S.row S.Seat.row M.Means S.Slots) self.entry
-            (λ tx. (lent tx).ghost_name) result (λ client. Stays S.reused self.old client)) }
+            (λ tx. (lent tx).ghost_name) result (λ client. AfterQuery S.reused self.old client)) }
         ensures same_reference { IfOk result (λ tx. (lent tx).ghost_name ≡ self.entry.ghost_name) }
         ensures point { IfOk result (λ tx. IsPoint M.means self.old.seat.mark (lent tx).now.seat.mark None
             (seen_by tx).log) }
         ensures seen { IfOk result (λ tx. (seen_by tx).log ≡ (lent tx).now.seat.mark.log) }
-        ensures reads { IfOk result (λ tx. Reads S.reused tries self.old (lent tx).now) }
+        ensures reads { IfOk result (λ tx. AfterRead S.reused tries self.old (lent tx).now) }
         ensures missed { IfErr result (IsStoreRefusal S.reused) }
     {
         let at = self.point(tries)?;
@@ -49,8 +49,8 @@ impl<M: Means, S: Slots<M>> Client<M, S> {
             × OnOk result (HasMore T.has sink.old sink.new rows) }
         ensures begun { OnErr result (GaveSome M.means T.has self.old.seat.mark self.new.seat.mark scan.now sink.old
             sink.new) }
-        ensures err { IfErr result (IsMissedOrDry S.reused) }
-        ensures stays { Stays S.reused self.old self.new }
+        ensures err { IfErr result (IsStoreOrMemory S.reused) }
+        ensures stays { AfterQuery S.reused self.old self.new }
     {
         let tx = self.read(tries)?;
         let given = tx.scan_into(scan, sink);

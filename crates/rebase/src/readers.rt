@@ -15,18 +15,18 @@ ghost use Rattle.head_word.specs.Marks.{known};
 ghost use Rattle.chunk_slots.specs.Seats.{IsIdle};
 ghost use Rattle.commit_graph.specs.Seats.{HasLooked};
 ghost use Rattle.push_body.specs.Bodies.{push_text};
-ghost use Rattle.answered.specs.Answered.{IsPoint};
-ghost use Rattle.group_steps.specs.Missing.{IsStoreRefusal, IsMissedOrDry};
+ghost use Rattle.linearized.specs.Answered.{IsPoint};
+ghost use Rattle.change_tries.specs.Missing.{IsStoreRefusal, IsStoreOrMemory};
 ghost use Rattle.transactions.specs.Reads.{pulled_version};
-ghost use Rattle.rebase.specs.Clients.{Reads, Stays};
+ghost use Rattle.rebase.specs.Clients.{AfterRead, AfterQuery};
 
 use crate::client::Client;
 use crate::reading::Point;
 use crate::seats::Seat;
+use change_tries::{SharedGroup, body_at};
 use chunk_slots::{Arena, Slots};
 use commit_graph::StoreNodes;
 use group_history::{Means, Refusal};
-use group_steps::{SharedGroup, body_at};
 use head_word::Mark;
 use std::marker::Model;
 use transactions::ReadTx as CommitTx;
@@ -61,9 +61,9 @@ impl<M: Means, S: Slots<M>> Client<M, S> {
     /// has no pin. Takes no memory.
     pub fn begin_read(self, tries: u32) -> Result<Reader<M, S>, (Client<M, S>, Refusal)>
         ensures point { IfOk result (λ r. IsPoint M.means self.seat.mark r.seat.mark None r.seat.mark.log) }
-        ensures reads { IfOk result (λ r. Reads S.reused tries self r) }
+        ensures reads { IfOk result (λ r. AfterRead S.reused tries self r) }
         ensures missed { IfErr result (λ e. IsStoreRefusal S.reused e.1) }
-        ensures stays { IfErr result (λ e. Stays S.reused self e.0) }
+        ensures stays { IfErr result (λ e. AfterQuery S.reused self e.0) }
     {
         let mut client = self;
         match client.point(tries) {
@@ -103,7 +103,7 @@ impl<M: Means, S: Slots<M>> Reader<M, S> {
     pub fn push_body(&self, skip: usize) -> Result<Vec<u8>, Refusal>
         ensures body { IfOk result (λ body. body.items ≡ push_text self.now.group.identity
             (drop skip (after (record_of self.now.seat.mark.log)).pending)) }
-        ensures err { IfErr result (IsMissedOrDry S.reused) }
+        ensures err { IfErr result (IsStoreOrMemory S.reused) }
     {
         body_at(&self.client.here(self.at.head(), self.tries), skip)
     }
@@ -126,7 +126,7 @@ impl<M: Means, S: Slots<M>> Reader<M, S> {
 
     /// Ends the reading, takes the pin away, and gives the client back. Takes no memory.
     pub fn end(self) -> Client<M, S>
-        ensures stays { Stays S.reused self result }
+        ensures stays { AfterQuery S.reused self result }
         ensures mark { result.seat.mark ≡ self.seat.mark }
     {
         let Reader {

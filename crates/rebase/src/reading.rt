@@ -12,16 +12,16 @@ ghost use Rattle.head_word.specs.Laws.{moment};
 ghost use Rattle.head_word.specs.Marks.{known};
 ghost use Rattle.map_chunks.specs.Sinks.{HasMore, HasBegun};
 ghost use Rattle.commit_graph.specs.Seats.{IsReading};
-ghost use Rattle.group_steps.specs.Missing.{IsStoreRefusal, IsMissedOrDry};
+ghost use Rattle.change_tries.specs.Missing.{IsStoreRefusal, IsStoreOrMemory};
 ghost use Rattle.transactions.specs.Reads.{pulled_version};
-ghost use Rattle.rebase.specs.Clients.{Stays};
+ghost use Rattle.rebase.specs.Clients.{AfterQuery};
 ghost use Rattle.rebase.specs.Inside.Watching.{CoversView, IsFoundAgain};
 
 use crate::client::Client;
+use change_tries::SharedGroup;
 use chunk_slots::Slots;
-use commit_graph::{Seat as ClientSeat, Shared, StoreNodes};
+use commit_graph::{ClientSeat, Shared, StoreNodes};
 use group_history::{Cookie, Json, Means, Mutation, Ref, Refusal, Scan, Text};
-use group_steps::SharedGroup;
 use head_word::{Mark, one_record};
 use map_chunks::covers::Cover;
 use std::alloc::Global;
@@ -171,9 +171,9 @@ impl<'a, M: Means, S: Slots<M>> ReadTx<'a, M, S> {
         client.group.shared.alloc
     }
 
-    /// Its commit, to be queried. Takes no memory. The client's pin is held as long as there is the reader; that is looked
-    /// at, since no type can keep what holds behind a `&mut` until the reader is let go, and not a moment longer. It is
-    /// never found missing; the refusal would be `Gone`.
+    /// Its commit, to be queried. Takes no memory. The client's pin is held as long as there is the reader; that is
+    /// looked at, since no type can keep what holds behind a `&mut` until the reader is let go, and not a moment
+    /// longer. It is never found missing; the refusal would be `Gone`.
     pub fn commit(&self) -> Result<CommitTx<StoreNodes<'_, M, S>>, Refusal>
         ensures version { IfOk result (λ tx. tx.version ≡ version_of M.means (read_by self.now)) }
         ensures contents { IfOk result (λ tx. tx.contents ≡ drawn (seen_by self.now).log) }
@@ -191,7 +191,7 @@ impl<'a, M: Means, S: Slots<M>> ReadTx<'a, M, S> {
     pub fn get(&self, key: &str) -> Result<Option<Json>, Refusal>
         ensures value { IfOk result (λ found. found
             ≡ get_at M.means (read_by self.now) key.now) }
-        ensures err { IfErr result (IsMissedOrDry S.reused) }
+        ensures err { IfErr result (IsStoreOrMemory S.reused) }
     {
         let mut tx = self.commit()?;
         Ok(tx.get(key)?)
@@ -211,7 +211,7 @@ impl<'a, M: Means, S: Slots<M>> ReadTx<'a, M, S> {
     pub fn scan(&self, scan: &Scan) -> Result<Vec<(Text, Json)>, Refusal>
         ensures rows { IfOk result (λ rows. rows.items
             ≡ view_rows M.means (read_by self.now) scan.now) }
-        ensures err { IfErr result (IsMissedOrDry S.reused) }
+        ensures err { IfErr result (IsStoreOrMemory S.reused) }
     {
         let mut tx = self.commit()?;
         Ok(tx.scan(scan)?)
@@ -224,7 +224,7 @@ impl<'a, M: Means, S: Slots<M>> ReadTx<'a, M, S> {
             (view_rows M.means (read_by self.now) scan.now)) }
         ensures begun { OnErr result (HasBegun T.has sink.old sink.new
             (view_rows M.means (read_by self.now) scan.now)) }
-        ensures err { IfErr result (IsMissedOrDry S.reused) }
+        ensures err { IfErr result (IsStoreOrMemory S.reused) }
     {
         let mut tx = self.commit()?;
         Ok(tx.scan_into(scan, sink)?)
@@ -233,13 +233,13 @@ impl<'a, M: Means, S: Slots<M>> ReadTx<'a, M, S> {
     // The chunks in which the rows lie that the scan asks for, its limit aside.
     pub(crate) fn cover(&self, scan: &Scan) -> Result<Cover, Refusal>
         ensures cover { IfOk result (λ cover. CoversView M.means (seen_by self.now).log scan.now cover) }
-        ensures err { IfErr result (IsMissedOrDry S.reused) }
+        ensures err { IfErr result (IsStoreOrMemory S.reused) }
     {
         let mut tx = self.commit()?;
         Ok(tx.cover(scan)?)
     }
 
-    // The rows that the scan asks for, its limit aside, beside those of before, of which these spans are known.
+    // The rows that the scan asks for beside those of before, of which these spans are known.
     pub(crate) fn scan_again(
         &self,
         scan: &Scan,
@@ -247,7 +247,7 @@ impl<'a, M: Means, S: Slots<M>> ReadTx<'a, M, S> {
         known: &Spans,
     ) -> Result<Rescanned, Refusal>
         ensures found { IfOk result (IsFoundAgain M.means (seen_by self.now).log scan.now before.now known.now) }
-        ensures err { IfErr result (IsMissedOrDry S.reused) }
+        ensures err { IfErr result (IsStoreOrMemory S.reused) }
     {
         let mut tx = self.commit()?;
         Ok(tx.scan_again(scan, before, known)?)
@@ -278,7 +278,7 @@ impl<'a, M: Means, S: Slots<M>> ReadTx<'a, M, S> {
     /// The mutations of the group that are not confirmed, the oldest first.
     pub fn pending(&self) -> Result<Vec<Mutation>, Refusal>
         ensures pending { IfOk result (λ xs. xs.items ≡ (read_by self.now).pending) }
-        ensures err { IfErr result (IsMissedOrDry S.reused) }
+        ensures err { IfErr result (IsStoreOrMemory S.reused) }
     {
         let mut tx = self.commit()?;
         Ok(tx.pending()?)
@@ -287,7 +287,7 @@ impl<'a, M: Means, S: Slots<M>> ReadTx<'a, M, S> {
     /// The cookie of the last pull that was applied; null before the first.
     pub fn cookie(&self) -> Result<Cookie, Refusal>
         ensures cookie { IfOk result (λ cookie. cookie ≡ (read_by self.now).cookie) }
-        ensures err { IfErr result (IsMissedOrDry S.reused) }
+        ensures err { IfErr result (IsStoreOrMemory S.reused) }
     {
         let mut tx = self.commit()?;
         Ok(tx.cookie()?)
@@ -324,7 +324,7 @@ impl<'a, M: Means, S: Slots<M>> ReadTx<'a, M, S> {
 
     /// Ends the reading, and takes the pin away, as dropping the reader does. Takes no memory.
     pub fn close(self)
-        ensures stays { Stays S.reused (lent self.entry).now self.exit.0.now }
+        ensures stays { AfterQuery S.reused (lent self.entry).now self.exit.0.now }
         ensures mark { self.exit.0.now.seat.mark ≡ (lent self.entry).now.seat.mark }
     {
         let ReadTx {
@@ -340,7 +340,7 @@ impl<M: Means, S: Slots<M>> Drop for ReadTx<'_, M, S> {
     ghost use Rattle.rebase.specs.Readers.{lent};
 
     fn drop(self)
-        ensures stays { Stays S.reused (lent self.entry).now self.exit.0.now }
+        ensures stays { AfterQuery S.reused (lent self.entry).now self.exit.0.now }
         ensures mark { self.exit.0.now.seat.mark ≡ (lent self.entry).now.seat.mark }
     {
         let ReadTx {

@@ -11,7 +11,7 @@ ghost use Rattle.commit_graph.specs.Seats.{GroupId, IsSeatOf};
 ghost use Rattle.rebase.specs.Clients.{AreSeatsOf};
 
 use chunk_slots::Slots;
-use commit_graph::{Seat as ClientSeat, Shared};
+use commit_graph::{ClientSeat, Shared};
 use group_history::{Means, Refusal};
 use head_word::Mark;
 use std::alloc::AllocError;
@@ -27,9 +27,9 @@ impl<M: Means, S: Slots<M>> Model for Seat<M, S> {
     ghost use Rattle.std.specs.Coded.{codes};
     ghost use Rattle.head_word.specs.contracts.entry.Entry as entry;
     ghost use Rattle.chunk_slots.specs.Seats.{IsIdle};
-    ghost use Rattle.commit_graph.specs.Seats.{Seated};
+    ghost use Rattle.commit_graph.specs.Seats.{SeatState};
 
-    ghost Value = { Seated };
+    ghost Value = { SeatState };
 
     ghost coded = { Prim.hlevel (codes, entry.the_row.coded) };
 

@@ -6,19 +6,19 @@ ghost use Rattle.group_history.specs.State.{last_id};
 ghost use Rattle.head_word.specs.Books.{drawn};
 ghost use Rattle.chunk_slots.specs.Seats.{IsIdle};
 ghost use Rattle.commit_graph.specs.LastIds.{last_at};
-ghost use Rattle.commit_graph.specs.Seats.{HasLooked, IsSeatOf, Seated};
-ghost use Rattle.answered.specs.Answered.{IsAnswered, IsLeft};
-ghost use Rattle.group_steps.specs.Missing.{IsMissedOrDry};
-ghost use Rattle.rebase.specs.Clients.{AreSeatsOf, NoneSat, Rests, SitsOn};
+ghost use Rattle.commit_graph.specs.Seats.{HasLooked, IsSeatOf, SeatState};
+ghost use Rattle.linearized.specs.Answered.{IsAnswered, IsLeft};
+ghost use Rattle.change_tries.specs.Missing.{IsStoreOrMemory};
+ghost use Rattle.rebase.specs.Clients.{AreSeatsOf, NoneSat, HoldsNothing, SitsOn};
 ghost use Rattle.uuid.specs.Text.{hyphenated_text, lower};
 
 use crate::client::Client;
 use crate::group::Group;
 use crate::seats::{Seat, Seats};
+use change_tries::{SharedGroup, find_last};
 use chunk_slots::Slots;
-use commit_graph::{LastId, Seat as ClientSeat};
+use commit_graph::{ClientSeat, LastId};
 use group_history::{Means, Refusal, Text};
-use group_steps::{SharedGroup, find_last};
 use std::alloc::{AllocError, Global};
 use std::sync::Arc;
 use uuid::Uuid;
@@ -74,9 +74,9 @@ impl<M: Means, S: Slots<M>> Group<M, S> {
         ensures id { IfOk result (λ client. client.id ≡ hyphenated_text lower id) }
         ensures answer { IfOk result (λ client. IsAnswered M.means seat.mark client.seat.mark None
             (λ s. last_id s client.id ≡ client.last)) }
-        ensures looked { IfOk result (λ client. HasLooked S.reused seat client.seat × Rests S.reused client) }
+        ensures looked { IfOk result (λ client. HasLooked S.reused seat client.seat × HoldsNothing S.reused client) }
         ensures back { IfErr result (λ e. HasLooked S.reused seat e.0) }
-        ensures err { IfErr result (λ e. IsMissedOrDry S.reused e.1 × IsLeft tries seat.mark e.0.mark e.1) }
+        ensures err { IfErr result (λ e. IsStoreOrMemory S.reused e.1 × IsLeft tries seat.mark e.0.mark e.1) }
     {
         let group: &SharedGroup<M, S> = &self.shared;
         let id = match client_id(group.shared.alloc, &id) {
@@ -109,7 +109,7 @@ impl<M: Means, S: Slots<M>> Group<M, S> {
         ensures seats { AreSeatsOf self.now.group seats.new.free }
         ensures capacity { seats.old.room ≤ seats.new.room }
         ensures room { IfOk result (λ _. length seats.new.free < seats.new.room) }
-        ensures ok { IfOk result (λ client. (seat : Seated) × (seats.old.free ≡ seats.new.free ++ seat ∷ [])
+        ensures ok { IfOk result (λ client. (seat : SeatState) × (seats.old.free ≡ seats.new.free ++ seat ∷ [])
             × SitsOn S.reused M.means self.now (hyphenated_text lower id) seat client) }
         ensures err { IfErr result (NoneSat S.reused tries seats.old.free seats.new.free) }
     {

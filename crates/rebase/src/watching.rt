@@ -3,10 +3,10 @@
 //! A watch keeps the rows that it answered last, the root of the map that they were read from, and the few topmost
 //! chunks in which the rows of its scan lie there (`Cover`). What a stamp spells never changes. So at a commit of the
 //! same root the rows are the same; and where other keys changed the root is another, but the chunks are the same, and
-//! so the rows are. In both cases none is read. Else, where the scan has no limit, a poll reads only chunks that the
-//! last one didn't meet: the watch keeps which rows are which chunk's (`Spans`). The type keeps that the rows are those
-//! of the root, lie in the chunks and have the spans (`AreRead`), in what was seen of the book when they were read; of
-//! that and what a client has seen one begins the other, and the watch keeps what both have seen.
+//! so the rows are. In both cases none is read. Else a poll reads only chunks that the last one didn't meet, and those
+//! at which the scan's limit cuts: the watch keeps which rows are which chunk's (`Spans`). The type keeps that the rows
+//! are those of the root, lie in the chunks and have the spans (`AreRead`), in what was seen of the book when they were
+//! read; of that and what a client has seen one begins the other, and the watch keeps what both have seen.
 ghost use Rattle.std.specs.Option.{option_copied};
 ghost use Rattle.std.specs.Prelude.{◌≡◌, ◌⊎◌, T, Some, None, Ok, true, IfOk, IfErr, IfNone, IfSome, IsSome};
 ghost use Rattle.std.specs.Cmp as laws;
@@ -16,10 +16,10 @@ ghost use Rattle.group_history.specs.Record.{after};
 ghost use Rattle.group_history.specs.Rows.{keys_of, rises};
 ghost use Rattle.head_word.specs.Books.{drawn, record_of};
 ghost use Rattle.head_word.specs.Marks.{known};
-ghost use Rattle.answered.specs.Answered.{IsLinearized, no_change};
-ghost use Rattle.group_steps.specs.Missing.{IsMissedOrDry};
+ghost use Rattle.linearized.specs.Answered.{IsLinearized, no_change};
+ghost use Rattle.change_tries.specs.Missing.{IsStoreOrMemory};
 ghost use Rattle.transactions.specs.Spans.{AreSpans};
-ghost use Rattle.rebase.specs.Clients.{Stays};
+ghost use Rattle.rebase.specs.Clients.{AfterQuery};
 ghost use Rattle.rebase.specs.Inside.Watching.{CoversView};
 ghost use Rattle.rebase.specs.Readers.{read_by, seen_by};
 ghost use Rattle.rebase.specs.Watching.{Watched, poll_at, poll_reply, same_rows, same_rows-equiv, was_told};
@@ -32,9 +32,9 @@ use group_history::{Json, Means, Ref, Refusal, Scan, Text};
 use head_word::Mark;
 use map_chunks::covers::Cover;
 use std::alloc::{AllocError, Global};
-use std::marker::{Brand, Model};
+use std::marker::Model;
 use std::sync::Arc;
-use transactions::{PreviousRows, Rescanned, RowDiff, Spans};
+use transactions::{Rescanned, Spans};
 
 /// Rows that were answered, in the order of their keys. They are shared: a clone copies none.
 #[derive(Drop)]
@@ -111,7 +111,7 @@ pub(crate) struct LastAnswer {
 // What a poll finds: the rows, if they are others than those that were answered last, or the first ones; their spans;
 // and what has been seen by then.
 #[derive(Drop)]
-struct Found<M: Means> {
+struct PollFound<M: Means> {
     others: Option<Vec<(Text, Json)>>,
     spans: Spans,
     mark: Mark<M>,
@@ -131,42 +131,23 @@ fn copy_of(last: &Option<LastAnswer>) -> Result<Option<LastAnswer>, AllocError>
     }
 }
 
-// The rows of a scan, if they are others than those of before, which `B` names.
-fn others_than<B: PreviousRows, M: Means, S: Slots<M>>(
-    before: &[(Text, Json)],
-    tx: &ReadTx<'_, M, S>,
-    scan: &Scan,
-) -> Result<Option<Vec<(Text, Json)>>, Refusal>
-    requires before { before.now ≡ B.rows }
-    ensures some { IfOk result (λ found. IfSome found
-        (λ rows. rows.items ≡ view_rows M.means (read_by tx.now) scan.now)) }
-    ensures same { IfOk result (λ found. IfNone found
-        (before.now ≡ view_rows M.means (read_by tx.now) scan.now)) }
-    ensures err { IfErr result (IsMissedOrDry S.reused) }
-{
-    let mut beside = RowDiff::<'_, B>::new(tx.alloc(), before);
-    tx.scan_into(scan, &mut beside)?;
-    Ok(beside.into_others()?)
-}
-
-// The first rows of a scan with no limit, and their spans.
+// The first rows of a scan, and their spans.
 fn read_first<M: Means, S: Slots<M>>(
     tx: &ReadTx<'_, M, S>,
     scan: &Scan,
-) -> Result<Found<M>, Refusal>
-    requires { scan.now.limit ≡ None }
+) -> Result<PollFound<M>, Refusal>
     ensures rows { IfOk result (λ found. IfSome found.others
         (λ rows. rows.items ≡ view_rows M.means (read_by tx.now) scan.now)) }
     ensures first { IfOk result (λ found. IsSome found.others) }
     ensures spans { IfOk result (λ found. AreSpans scan.now (drawn found.mark.log)
         (view_rows M.means (read_by tx.now) scan.now) found.spans) }
     ensures mark { IfOk result (λ found. found.mark ≡ known (seen_by tx.now).book (seen_by tx.now).log None) }
-    ensures err { IfErr result (IsMissedOrDry S.reused) }
+    ensures err { IfErr result (IsStoreOrMemory S.reused) }
 {
     let none = Spans::none(tx.alloc())?;
     let before = Vec::new(tx.alloc());
     let Rescanned { others, spans } = tx.scan_again(scan, before.as_slice(), &none)?;
-    Ok(Found {
+    Ok(PollFound {
         others: Some(others.unwrap_or(before)),
         spans,
         mark: tx.point().mark(),
@@ -326,28 +307,9 @@ impl<M: Means> Watch<M> {
         }
     }
 
-    // The rows, if they are others than those that were told last, or the first ones. Each is read.
-    fn read_all<S: Slots<M>>(
-        &self,
-        tx: &ReadTx<'_, M, S>,
-    ) -> Result<Option<Vec<(Text, Json)>>, Refusal>
-        ensures some { IfOk result (λ found. IfSome found
-            (λ rows. rows.items ≡ view_rows M.means (read_by tx.now) self.now.scan)) }
-        ensures same { IfOk result (λ found. IfNone found
-            (self.now.last ≡ Some (view_rows M.means (read_by tx.now) self.now.scan))) }
-        ensures err { IfErr result (IsMissedOrDry S.reused) }
-    {
-        let Some(told) = &self.last else {
-            let rows = tx.scan(&self.scan)?;
-            return Ok(Some(rows));
-        };
-        others_than::<Brand, M, S>(told.rows.as_slice(), tx, &self.scan)
-    }
-
-    // The same of a scan with no limit. Chunks that were met when the rows were told are not read.
-    fn read_new<S: Slots<M>>(&self, tx: &ReadTx<'_, M, S>) -> Result<Found<M>, Refusal>
-        requires book { self.now.book ≡ (seen_by tx.now).book }
-        requires limit { self.now.scan.limit ≡ None }
+    // What a poll finds. Chunks that were met when the rows were told are not read, but for those that the limit cuts.
+    fn read_new<S: Slots<M>>(&self, tx: &ReadTx<'_, M, S>) -> Result<PollFound<M>, Refusal>
+        requires { self.now.book ≡ (seen_by tx.now).book }
         ensures some { IfOk result (λ found. IfSome found.others
             (λ rows. rows.items ≡ view_rows M.means (read_by tx.now) self.now.scan)) }
         ensures same { IfOk result (λ found. IfNone found.others
@@ -356,7 +318,7 @@ impl<M: Means> Watch<M> {
             (view_rows M.means (read_by tx.now) self.now.scan) found.spans) }
         ensures book { IfOk result (λ found. found.mark.book ≡ self.now.book) }
         ensures seen { IfOk result (λ found. IsPrefix (seen_by tx.now).log found.mark.log) }
-        ensures err { IfErr result (IsMissedOrDry S.reused) }
+        ensures err { IfErr result (IsStoreOrMemory S.reused) }
     {
         let Some(told) = &self.last else {
             return read_first(tx, &self.scan);
@@ -367,35 +329,10 @@ impl<M: Means> Watch<M> {
             told.rows.as_slice(),
             &told.spans,
         )?;
-        Ok(Found {
+        Ok(PollFound {
             others,
             spans,
             mark,
-        })
-    }
-
-    // What a poll finds. Of a scan with a limit no spans are kept.
-    fn others<S: Slots<M>>(&self, tx: &ReadTx<'_, M, S>) -> Result<Found<M>, Refusal>
-        requires { self.now.book ≡ (seen_by tx.now).book }
-        ensures some { IfOk result (λ found. IfSome found.others
-            (λ rows. rows.items ≡ view_rows M.means (read_by tx.now) self.now.scan)) }
-        ensures same { IfOk result (λ found. IfNone found.others
-            (self.now.last ≡ Some (view_rows M.means (read_by tx.now) self.now.scan))) }
-        ensures spans { IfOk result (λ found. AreSpans self.now.scan (drawn found.mark.log)
-            (view_rows M.means (read_by tx.now) self.now.scan) found.spans) }
-        ensures book { IfOk result (λ found. found.mark.book ≡ self.now.book) }
-        ensures seen { IfOk result (λ found. IsPrefix (seen_by tx.now).log found.mark.log) }
-        ensures err { IfErr result (IsMissedOrDry S.reused) }
-    {
-        if self.scan.limit.is_none() {
-            return self.read_new(tx);
-        }
-        let others = self.read_all(tx)?;
-        let spans = Spans::none(tx.alloc())?;
-        Ok(Found {
-            others,
-            spans,
-            mark: tx.point().mark(),
         })
     }
 
@@ -410,14 +347,14 @@ impl<M: Means> Watch<M> {
         ensures value { IfOk result (λ polled. polled ≡ poll_at M.means self.old (read_by tx.now)) }
         ensures kept { IfOk result (λ polled. self.new ≡ watch_after self.old (Ok polled)) }
         ensures left { IfErr result (λ _. self.new ≡ self.old) }
-        ensures err { IfErr result (IsMissedOrDry S.reused) }
+        ensures err { IfErr result (IsStoreOrMemory S.reused) }
     {
         let at = tx.point();
-        let Found {
+        let PollFound {
             others,
             spans,
             mark,
-        } = self.others(tx)?;
+        } = self.read_new(tx)?;
         let Some(rows) = others else {
             self.keep_told(at, mark, cover, spans);
             return Ok(Polled::Unchanged);
@@ -432,7 +369,7 @@ impl<M: Means> Watch<M> {
         ensures value { IfOk result (λ polled. polled ≡ poll_at M.means self.old (read_by tx.now)) }
         ensures kept { IfOk result (λ polled. self.new ≡ watch_after self.old (Ok polled)) }
         ensures left { IfErr result (λ _. self.new ≡ self.old) }
-        ensures err { IfErr result (IsMissedOrDry S.reused) }
+        ensures err { IfErr result (IsStoreOrMemory S.reused) }
     {
         let at = tx.point();
         if self.has_read(at) {
@@ -476,9 +413,9 @@ impl<M: Means, S: Slots<M>> Client<M, S> {
         requires book { watch.old.book ≡ self.old.seat.mark.book }
         ensures answer { IsLinearized M.means tries self.old.seat.mark self.new.seat.mark result no_change
             (λ s. Ok (poll_at M.means watch.old s)) }
-        ensures err { IfErr result (IsMissedOrDry S.reused) }
+        ensures err { IfErr result (IsStoreOrMemory S.reused) }
         ensures kept { watch.new ≡ watch_after watch.old result }
-        ensures stays { Stays S.reused self.old self.new }
+        ensures stays { AfterQuery S.reused self.old self.new }
     {
         let tx = self.read(tries)?;
         let polled = watch.ask(&tx);

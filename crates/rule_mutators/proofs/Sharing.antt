@@ -17,7 +17,7 @@ use Rattle.rule_mutators.proofs.language.Two.TheSendSync as two
 use Rattle.rule_mutators.proofs.language.Which.TheSendSync as which
 use Rattle.rule_mutators.proofs.language.Step.TheLaws.TheKnot as step
 use Rattle.rule_mutators.proofs.language.Expr.TheLaws.TheKnot as expr
-use Rattle.rule_mutators.specs.declared.mutators.Picked as Picked
+use Rattle.rule_mutators.specs.declared.mutators.NamesRules as NamesRules
 use Rattle.rule_mutators.specs.contracts.language.Expr as Expr
 use Rattle.rule_mutators.specs.contracts.language.Rules as Rules
 use Rattle.rule_mutators.specs.contracts.language.Step as Step
@@ -53,7 +53,7 @@ step_row = search (step_sync, sendable) depth 60 fits 20000
 pub rules_sync : IsSync (Rules.the_field).row
 rules_sync = search (text_sync, step_row, crosses, sendable) depth 60 fits 20000
 
-pub mutators_sync : (B : RattleType) (picked : Picked.Ghosts B.Denot)
+pub mutators_sync : (B : RattleType) (picked : NamesRules.Ghosts B.Denot)
     → IsSync (RuleMutators.the_row B picked)
 mutators_sync B picked =
     recorded_sync (RuleMutators.the_field B picked).row _ _ (RuleMutators.the_type B picked).to_one

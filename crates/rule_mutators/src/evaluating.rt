@@ -22,7 +22,7 @@ use std::alloc::{AllocError, Global};
 
 /// What a rule is run with.
 #[derive(Clone, Copy)]
-pub(crate) struct Call<'a> {
+pub(crate) struct RuleCall<'a> {
     pub(crate) alloc: Global,
     pub(crate) args: &'a Value,
 }
@@ -30,7 +30,7 @@ pub(crate) struct Call<'a> {
 /// The value of an expression.
 #[cycle(value)]
 pub(crate) fn value_at<V: WriteView>(
-    call: Call<'_>,
+    call: RuleCall<'_>,
     view: &mut V,
     e: &Expr,
 ) -> Result<Option<Value>, Stop>
@@ -52,7 +52,7 @@ pub(crate) fn value_at<V: WriteView>(
 }
 
 /// A copy of one of the arguments.
-fn argument(call: Call<'_>, which: &Which) -> Result<Option<Value>, Stop>
+fn argument(call: RuleCall<'_>, which: &Which) -> Result<Option<Value>, Stop>
     ensures value { IfOk result (λ found. option_map data_of found
         ≡ spec.argument_of which.now (data_of call.entry.args.now)) }
     ensures stopped { IfErr result (λ stop. stop ≡ NoMemory) }
@@ -69,7 +69,7 @@ fn argument(call: Call<'_>, which: &Which) -> Result<Option<Value>, Stop>
 
 #[cycle(value)]
 fn one_at<V: WriteView>(
-    call: Call<'_>,
+    call: RuleCall<'_>,
     view: &mut V,
     word: One,
     a: &Expr,
@@ -142,7 +142,7 @@ fn has<V: WriteView>(alloc: Global, view: &mut V, key: Value) -> Result<Option<V
 
 #[cycle(value)]
 fn field_at<V: WriteView>(
-    call: Call<'_>,
+    call: RuleCall<'_>,
     view: &mut V,
     of: &Expr,
     name: &str,
@@ -161,7 +161,7 @@ fn field_at<V: WriteView>(
 
 #[cycle(value)]
 fn or_at<V: WriteView>(
-    call: Call<'_>,
+    call: RuleCall<'_>,
     view: &mut V,
     both: &(Expr, Expr),
 ) -> Result<Option<Value>, Stop>
@@ -185,7 +185,7 @@ fn or_at<V: WriteView>(
 
 #[cycle(value)]
 fn two_at<V: WriteView>(
-    call: Call<'_>,
+    call: RuleCall<'_>,
     view: &mut V,
     word: Two,
     both: &(Expr, Expr),
@@ -213,7 +213,7 @@ fn two_at<V: WriteView>(
 
 #[cycle(value)]
 fn cat_at<V: WriteView>(
-    call: Call<'_>,
+    call: RuleCall<'_>,
     view: &mut V,
     all: &Vec<Expr>,
 ) -> Result<Option<Value>, Stop>
@@ -242,7 +242,7 @@ fn push(text: &mut String, next: String) -> Result<(), AllocError>
 /// The text that an expression is, or the decimal of its number: a key, or a part of a text.
 #[cycle(value)]
 pub(crate) fn key_at<V: WriteView>(
-    call: Call<'_>,
+    call: RuleCall<'_>,
     view: &mut V,
     e: &Expr,
 ) -> Result<Option<String>, Stop>
@@ -259,7 +259,7 @@ pub(crate) fn key_at<V: WriteView>(
 
 #[cycle(value)]
 fn object_at<V: WriteView>(
-    call: Call<'_>,
+    call: RuleCall<'_>,
     view: &mut V,
     fields: &Vec<(Text, Expr)>,
 ) -> Result<Option<Value>, Stop>
@@ -281,7 +281,7 @@ fn object_at<V: WriteView>(
 
 /// Whether an expression is true; `None` where it is neither true nor false.
 pub(crate) fn truth_at<V: WriteView>(
-    call: Call<'_>,
+    call: RuleCall<'_>,
     view: &mut V,
     e: &Expr,
 ) -> Result<Option<bool>, Stop>

@@ -23,5 +23,5 @@ mod words;
 
 pub use faults::{RuleFault, Wrong};
 pub use language::Rules;
-pub use mutators::{Picked, RuleMutators};
+pub use mutators::{NamesRules, RuleMutators};
 pub use telling::tell_fault;

@@ -9,7 +9,7 @@ ghost use Rattle.rule_mutators.specs.Meaning.{RunsIfAny, rules_mean, steps_named
 ghost use Rattle.rule_mutators.specs.Rules as rule;
 ghost use Rattle.rule_mutators.specs.Views.{rules_of};
 
-use crate::evaluating::Call;
+use crate::evaluating::RuleCall;
 use crate::language::Rules;
 use crate::running::run_steps;
 use group_history::{Json, Means, Mutators, Ran, Reason, Stop, WriteView};
@@ -18,24 +18,24 @@ use std::alloc::Global;
 use std::marker::{Brand, PhantomData};
 
 /// Names rules in a type, for contracts alone.
-pub trait Picked {
+pub trait NamesRules {
     ghost rules: { rule.Rules };
 }
 
-impl Picked for Brand {
+impl NamesRules for Brand {
     ghost rules = { [] };
 }
 
 /// The rules that `B` names as mutators: a name runs the rule of that name, and without one the mutator of scripts. A
 /// rule refuses with the code of its `need`, or with 1 for a value of a wrong type, missing, or out of range.
 #[derive(Drop)]
-pub struct RuleMutators<B: Picked> {
+pub struct RuleMutators<B: NamesRules> {
     rules: Rules,
     of: PhantomData<B>,
     ghost named: { ∥ rules_of rules ≡ B.rules ∥₁ },
 }
 
-impl<B: Picked> RuleMutators<B> {
+impl<B: NamesRules> RuleMutators<B> {
     /// Mutators that run the rules, which are those that `B` names.
     pub fn new(rules: Rules) -> RuleMutators<B>
         requires { rules_of rules ≡ B.rules }
@@ -47,7 +47,7 @@ impl<B: Picked> RuleMutators<B> {
     }
 }
 
-impl<B: Picked> Means for RuleMutators<B> {
+impl<B: NamesRules> Means for RuleMutators<B> {
     ghost means = { rules_mean B.rules };
 }
 
@@ -68,7 +68,7 @@ impl Rules {
             return Ok(None);
         };
         let args = args.value(alloc)?;
-        let call = Call { alloc, args: &args };
+        let call = RuleCall { alloc, args: &args };
         let ran = run_steps(call, view, steps);
         drop(args);
         Ok(Some(ran?))
@@ -95,7 +95,7 @@ impl Rules {
     }
 }
 
-impl<B: Picked + Sync> Mutators for RuleMutators<B> {
+impl<B: NamesRules + Sync> Mutators for RuleMutators<B> {
     fn run<V: WriteView>(
         &self,
         alloc: Global,

@@ -11,7 +11,7 @@ ghost use Rattle.rule_mutators.specs.Meaning as spec;
 ghost use Rattle.rule_mutators.specs.Rules as rule;
 ghost use Rattle.rule_mutators.specs.Views.{expression_of, step_of, all_steps};
 
-use crate::evaluating::{Call, key_at, truth_at, value_at};
+use crate::evaluating::{RuleCall, key_at, truth_at, value_at};
 use crate::language::{Expr, Step};
 use crate::values::{kept, merged, value_there};
 use group_history::{Json, Ran, Stop, Update, WriteView};
@@ -24,7 +24,7 @@ const WRONG: u32 = 1;
 /// Does steps in order. What was written is left where a later step refuses.
 #[cycle(steps)]
 pub(crate) fn run_steps<V: WriteView>(
-    call: Call<'_>,
+    call: RuleCall<'_>,
     view: &mut V,
     steps: &Vec<Step>,
 ) -> Result<Ran, Stop>
@@ -43,7 +43,7 @@ pub(crate) fn run_steps<V: WriteView>(
 }
 
 #[cycle(steps)]
-fn run_step<V: WriteView>(call: Call<'_>, view: &mut V, step: &Step) -> Result<Ran, Stop>
+fn run_step<V: WriteView>(call: RuleCall<'_>, view: &mut V, step: &Step) -> Result<Ran, Stop>
     ensures ran { IfOk result (λ ran. RunsAs
         (spec.step_means (step_of step.now) (data_of call.entry.args.now) (V.contents view.old)) ran
         (V.contents view.new)) }
@@ -63,7 +63,7 @@ fn run_step<V: WriteView>(call: Call<'_>, view: &mut V, step: &Step) -> Result<R
     }
 }
 
-fn put<V: WriteView>(call: Call<'_>, view: &mut V, key: &Expr, e: &Expr) -> Result<Ran, Stop>
+fn put<V: WriteView>(call: RuleCall<'_>, view: &mut V, key: &Expr, e: &Expr) -> Result<Ran, Stop>
     ensures ran { IfOk result (λ ran. RunsAs
         (spec.step_means (rule.put (expression_of key.now) (expression_of e.now)) (data_of call.entry.args.now)
         (V.contents view.old)) ran (V.contents view.new)) }
@@ -98,7 +98,7 @@ fn put_value<V: WriteView>(
     Ok(Ran::Done)
 }
 
-fn del<V: WriteView>(call: Call<'_>, view: &mut V, key: &Expr) -> Result<Ran, Stop>
+fn del<V: WriteView>(call: RuleCall<'_>, view: &mut V, key: &Expr) -> Result<Ran, Stop>
     ensures ran { IfOk result (λ ran. RunsAs
         (spec.step_means (rule.del (expression_of key.now)) (data_of call.entry.args.now) (V.contents view.old)) ran
         (V.contents view.new)) }
@@ -111,7 +111,7 @@ fn del<V: WriteView>(call: Call<'_>, view: &mut V, key: &Expr) -> Result<Ran, St
     Ok(Ran::Done)
 }
 
-fn merge<V: WriteView>(call: Call<'_>, view: &mut V, key: &Expr, e: &Expr) -> Result<Ran, Stop>
+fn merge<V: WriteView>(call: RuleCall<'_>, view: &mut V, key: &Expr, e: &Expr) -> Result<Ran, Stop>
     ensures ran { IfOk result (λ ran. RunsAs
         (spec.step_means (rule.merge (expression_of key.now) (expression_of e.now)) (data_of call.entry.args.now)
         (V.contents view.old)) ran (V.contents view.new)) }
@@ -160,7 +160,7 @@ fn merged_there(alloc: Global, there: Option<Json>, more: &Value) -> Result<Upda
 }
 
 /// Refuses with the code where an expression is false.
-fn need<V: WriteView>(call: Call<'_>, view: &mut V, e: &Expr, code: u32) -> Result<Ran, Stop>
+fn need<V: WriteView>(call: RuleCall<'_>, view: &mut V, e: &Expr, code: u32) -> Result<Ran, Stop>
     ensures ran { IfOk result (λ ran. RunsAs
         (spec.step_means (rule.need (expression_of e.now) code) (data_of call.entry.args.now) (V.contents view.old))
         ran (V.contents view.new)) }

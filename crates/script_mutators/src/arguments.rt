@@ -30,7 +30,7 @@ pub(crate) enum Args<'a> {
 
 /// One of the arguments.
 #[derive(Clone, Copy)]
-pub(crate) enum Part<'a> {
+pub(crate) enum Argument<'a> {
     Number(i64),
     Text(&'a str),
     Other(&'a Value),
@@ -108,16 +108,16 @@ fn one_text(args: &Value) -> Option<&str>
 
 /// Arguments that are a text and any value.
 #[tactic(auto, unfolding(crate::specs::Mutators::text_and_value))]
-pub(crate) fn text_and_value<'a>(args: &'a Args<'_>) -> Option<(&'a str, Part<'a>)>
+pub(crate) fn text_and_value<'a>(args: &'a Args<'_>) -> Option<(&'a str, Argument<'a>)>
     ensures { option_map (λ both. (both.0.now, part_value both.1)) result ≡ spec.text_and_value (args_value args.now) }
 {
     match args {
         Args::Text(_) => None,
-        Args::TextAndNumber(text, number) => Some((text, Part::Number(*number))),
-        Args::TextAndText(text, other) => Some((text, Part::Text(other))),
+        Args::TextAndNumber(text, number) => Some((text, Argument::Number(*number))),
+        Args::TextAndText(text, other) => Some((text, Argument::Text(other))),
         Args::Other(value) => {
             let (text, value) = text_and_other(value)?;
-            Some((text, Part::Other(value)))
+            Some((text, Argument::Other(value)))
         }
     }
 }
@@ -153,36 +153,36 @@ pub(crate) fn text_and_text<'a>(args: &'a Args<'_>) -> Option<(&'a str, &'a str)
 }
 
 /// The number that it is, where it is one from -2^63 to 2^63 - 1.
-fn number_at(part: Part<'_>) -> Option<i64>
+fn number_at(part: Argument<'_>) -> Option<i64>
     ensures { result ≡ spec.number_of (part_value part.entry) }
 {
     match part {
-        Part::Number(number) => Some(number),
-        Part::Text(_) => None,
-        Part::Other(value) => value.as_i64(),
+        Argument::Number(number) => Some(number),
+        Argument::Text(_) => None,
+        Argument::Other(value) => value.as_i64(),
     }
 }
 
 /// The text that it is, where it is one.
-fn text_at(part: Part<'_>) -> Option<&str>
+fn text_at(part: Argument<'_>) -> Option<&str>
     ensures { option_map (λ s. s.now) result ≡ as_str (part_value part.entry) }
 {
     match part {
-        Part::Number(_) => None,
-        Part::Text(text) => Some(text),
-        Part::Other(value) => value.as_str(),
+        Argument::Number(_) => None,
+        Argument::Text(text) => Some(text),
+        Argument::Other(value) => value.as_str(),
     }
 }
 
 /// The JSON text of one of the arguments.
-pub(crate) fn json_of(alloc: Global, part: Part<'_>) -> Result<Json, AllocError>
+pub(crate) fn json_of(alloc: Global, part: Argument<'_>) -> Result<Json, AllocError>
     requires shallow { depth (part_value part) ≤ 124 }
     requires whole { has_float (part_value part) ≡ false }
     ensures { IfOk result (λ json. json ≡ compact_text (part_value part.entry)) }
 {
     match part {
-        Part::Number(number) => decimal(alloc, number),
-        Part::Text(text) => quoted(alloc, String::from_str(alloc, text)?),
-        Part::Other(value) => Json::of_whole(alloc, value),
+        Argument::Number(number) => decimal(alloc, number),
+        Argument::Text(text) => quoted(alloc, String::from_str(alloc, text)?),
+        Argument::Other(value) => Json::of_whole(alloc, value),
     }
 }

@@ -12,8 +12,8 @@ use Rattle.script_parser.specs.declared.faults.LineFault.{LineFault}
 use Rattle.script_parser.specs.declared.faults.LineFault.TheVariants as line
 use Rattle.script_parser.specs.declared.faults.ScriptFault.{ScriptFault}
 use Rattle.script_parser.specs.declared.faults.ScriptFault.TheVariants as text
-use Rattle.script_parser.specs.declared.script.Asked.{Asked}
-use Rattle.script_parser.specs.declared.script.Asked.TheVariants as asked
+use Rattle.script_parser.specs.declared.script.LineKind.{LineKind}
+use Rattle.script_parser.specs.declared.script.LineKind.TheVariants as asked
 use Rattle.script_parser.specs.declared.parser.Parser.{Parser}
 use Rattle.script_parser.specs.Context.{Context, Lines}
 use Rattle.script_parser.specs.Commands.{with_line}
@@ -61,13 +61,13 @@ sound_bare c is range =
           (All-replicate (LearnWithin n) n [] (All-nil (λ l. LearnsWithin n l.1))));
     }
 
-range_beside : (a : Asked) (c : Context) → Sound (with_asked a c) → IsSaidInRange c
+range_beside : (a : LineKind) (c : Context) → Sound (with_asked a c) → IsSaidInRange c
 range_beside asked.Nothing c sound = (sound.seats, sound.slots)
 range_beside asked.Phase c sound = (sound.seats, sound.slots)
 range_beside (asked.Command client l) c sound = (sound.seats, sound.slots)
 
 -- what is kept beside what a right line asks is in range
-pub range_asked : (old new : Context) (n : ℕ) (l : Bytes) (a : Asked) → without_lines old ≡ old → IsSaidInRange old
+pub range_asked : (old new : Context) (n : ℕ) (l : Bytes) (a : LineKind) → without_lines old ≡ old → IsSaidInRange old
     → said_with old n l ≡ Ok (with_asked a new) → IsSaidInRange new
 range_asked old new n l a is range right =
     range_beside a new (subst (λ (r : Result Context ScriptFault). IfOk r Sound) right
@@ -77,7 +77,7 @@ range_noted : (ps : List (List Lines)) (c : Context) → IsSaidInRange c → IsS
 range_noted [] c range = range
 range_noted (p ∷ ps) c range = range
 
-pub range_settled : (a : Asked) (c : Context) → IsSaidInRange c → IsSaidInRange (settled a c)
+pub range_settled : (a : LineKind) (c : Context) → IsSaidInRange c → IsSaidInRange (settled a c)
 range_settled asked.Nothing c range = range
 range_settled asked.Phase c range = range_noted c.phases c range
 range_settled (asked.Command client l) c range = range
@@ -90,7 +90,7 @@ bare_for m n [] is same = refl
 bare_for m n (p ∷ ps) is same = ap (λ k. new_phase k ∷ []) (same (omega arith)) ∙ is
 
 -- beside what is asked no line is kept
-pub bare_beside : (n : ℕ) (old new : Context) (a : Asked) → without_lines old ≡ old → IsBeside n old a new
+pub bare_beside : (n : ℕ) (old new : Context) (a : LineKind) → without_lines old ≡ old → IsBeside n old a new
     → without_lines new ≡ new
 bare_beside n old new asked.Nothing is beside =
     let phases : bare (length old.clients) old.phases ≡ old.phases = ap (λ d. d.phases) is in
@@ -135,7 +135,7 @@ took_phase right n c (p ∷ ps) some is right_is =
     )
 
 -- what is asked is taken
-pub took : (right : Result Context ScriptFault) (n : ℕ) (old new : Context) (a : Asked) → without_lines old ≡ old
+pub took : (right : Result Context ScriptFault) (n : ℕ) (old new : Context) (a : LineKind) → without_lines old ≡ old
     → right ≡ Ok (with_asked a new) → IsBeside n old a new → TakesAs right n old (Ok a) (settled a new)
 took right n old new asked.Nothing is right_is beside =
     (new, right_is, beside.0, sym (bare_beside n old new asked.Nothing is beside))
@@ -147,7 +147,8 @@ took right n old new (asked.Command client l) is right_is beside =
       with_asked (asked.Command client l) new,
       right_is,
       (beside.2, beside.3, beside.4, ap (with_line client (line_said l)) beside.0),
-      sym (ap (λ ps. record new { phases = ps }) (bare_line (length new.clients) client (line_said l) new.phases) ∙ kept),
+      sym (ap (λ ps. record new { phases = ps }) (bare_line (length new.clients) client (line_said l) new.phases)
+          ∙ kept),
     )
 
 bare_noted : (ps : List (List Lines)) (c : Context) → c.phases ≡ ps → without_lines c ≡ c
@@ -157,7 +158,7 @@ bare_noted [] c none is = ap (λ ps. record c { phases = ps })
     ∙ sym (ap (λ ps. ps ++ new_phase (length c.clients) ∷ []) none))
 bare_noted (p ∷ ps) c some is = is
 
-pub bare_settled : (a : Asked) (c : Context) → without_lines c ≡ c → without_lines (settled a c) ≡ settled a c
+pub bare_settled : (a : LineKind) (c : Context) → without_lines c ≡ c → without_lines (settled a c) ≡ settled a c
 bare_settled asked.Nothing c is = is
 bare_settled asked.Phase c is = bare_noted c.phases c refl is
 bare_settled (asked.Command client l) c is = is

@@ -6,7 +6,7 @@ use Rattle.std.proofs.lemmas.Bool.{false≢true, ne_eqb, eq-eqb, eqb-true}
 use Rattle.std.proofs.lemmas.Iterator.Adapters.{position_from-zero}
 use Rattle.std.proofs.lemmas.List.Quantifiers.{position-Some}
 use Rattle.std.specs.List.{list_any, position, position_from, range_with_len}
-use Rattle.script_parser.specs.declared.script.Part.{Part}
+use Rattle.script_parser.specs.declared.script.ClientPart.{ClientPart}
 use Rattle.script_parser.specs.declared.script.Command.{Command}
 use Rattle.script_parser.specs.Names.{changed_at}
 use Rattle.script_parser.specs.Scripts.{line_said, lines_at}
@@ -56,7 +56,7 @@ neither false b is = (refl, is)
 neither true b is = absurd (false≢true (sym is))
 
 -- the first line of a client
-first_own : (ps : List Part) (w : Part) → list_any (λ p. p.client == w.client) ps ≡ false
+first_own : (ps : List ClientPart) (w : ClientPart) → list_any (λ p. p.client == w.client) ps ≡ false
     → (lines_at (ps ++ w ∷ []) w.client ≡ map line_said w.lines.items) × (lines_at ps w.client ≡ [])
 first_own [] w none = (rw (eq-eqb w.client w.client refl), refl)
 first_own (p ∷ ps) w none =
@@ -64,12 +64,12 @@ first_own (p ∷ ps) w none =
     let rest = first_own ps w no.1 in
     (rw (no.0) rest.0, rw (no.0) rest.1)
 
-first_other : (ps : List Part) (w : Part) (i : ℕ) → i ≢ w.client → lines_at (ps ++ w ∷ []) i ≡ lines_at ps i
+first_other : (ps : List ClientPart) (w : ClientPart) (i : ℕ) → i ≢ w.client → lines_at (ps ++ w ∷ []) i ≡ lines_at ps i
 first_other [] w i other = rw (ne_eqb w.client i (λ e. other (sym e)))
 first_other (p ∷ ps) w i other = ap (λ r. cond (p.client == i) (map line_said p.lines.items) r)
     (first_other ps w i other)
 
-pub with_first : (ps : List Part) (w : Part) (l : ℕ × Command) (n : ℕ)
+pub with_first : (ps : List ClientPart) (w : ClientPart) (l : ℕ × Command) (n : ℕ)
     → position (λ p. p.client == w.client) ps ≡ None → map line_said w.lines.items ≡ l ∷ []
     → map (lines_at (ps ++ w ∷ [])) (range_with_len 0 n)
     ≡ changed_at w.client (λ lines. lines ++ l ∷ []) (map (lines_at ps) (range_with_len 0 n))
@@ -80,13 +80,14 @@ with_first ps w l n none is =
     (λ i other. first_other ps w i other) (own.0 ∙ is ∙ ap (λ ls. ls ++ l ∷ []) (sym own.1)) 0 n w.client (omega arith)
 
 -- a line more of a client that has some
-more_own : (ps : List Part) (c k : ℕ) (was w : Part) (l : ℕ × Command) → k < length ps → was ≡ get_or ps k was
+more_own : (ps : List ClientPart) (c k : ℕ) (was w : ClientPart) (l : ℕ × Command) → k < length ps
+    → was ≡ get_or ps k was
     → (was.client == c) ≡ true → ((j : ℕ) → j < k → ((get_or ps j was).client == c) ≡ false) → w.client ≡ was.client
     → map line_said w.lines.items ≡ map line_said was.lines.items ++ l ∷ []
     → lines_at (set ps k w) c ≡ lines_at ps c ++ l ∷ []
 more_own [] c k was w l within at found before same is = absurd (omega (arith, within))
 more_own (p ∷ ps) c zero was w l within at found before same is =
-    subst (λ (q : Part). cond (w.client == c) (map line_said w.lines.items) (lines_at ps c)
+    subst (λ (q : ClientPart). cond (w.client == c) (map line_said w.lines.items) (lines_at ps c)
     ≡ cond (q.client == c) (map line_said q.lines.items) (lines_at ps c) ++ l ∷ []) at
     (subst (λ (n : ℕ). cond (n == c) (map line_said w.lines.items) (lines_at ps c)
     ≡ cond (was.client == c) (map line_said was.lines.items) (lines_at ps c) ++ l ∷ []) (sym same) (rw found is))
@@ -94,11 +95,12 @@ more_own (p ∷ ps) c (suc k) was w l within at found before same is =
     rw (before 0 (omega arith)) (more_own ps c k was w l (omega (arith, within)) at found
     (λ j below. before (suc j) (omega (arith, below))) same is)
 
-more_other : (ps : List Part) (i k : ℕ) (was w : Part) → k < length ps → was ≡ get_or ps k was → w.client ≡ was.client
+more_other : (ps : List ClientPart) (i k : ℕ) (was w : ClientPart) → k < length ps → was ≡ get_or ps k was
+    → w.client ≡ was.client
     → (was.client == i) ≡ false → lines_at (set ps k w) i ≡ lines_at ps i
 more_other [] i k was w within at same other = refl
 more_other (p ∷ ps) i zero was w within at same other =
-    subst (λ (q : Part). cond (w.client == i) (map line_said w.lines.items) (lines_at ps i)
+    subst (λ (q : ClientPart). cond (w.client == i) (map line_said w.lines.items) (lines_at ps i)
     ≡ cond (q.client == i) (map line_said q.lines.items) (lines_at ps i)) at
     (subst (λ (n : ℕ). cond (n == i) (map line_said w.lines.items) (lines_at ps i)
     ≡ cond (was.client == i) (map line_said was.lines.items) (lines_at ps i)) (sym same) (rw other))
@@ -106,42 +108,42 @@ more_other (p ∷ ps) i (suc k) was w within at same other = ap
     (λ r. cond (p.client == i) (map line_said p.lines.items) r)
     (more_other ps i k was w (omega (arith, within)) at same other)
 
-pub with_more : (ps : List Part) (c k : ℕ) (was w : Part) (l : ℕ × Command) (n : ℕ)
+pub with_more : (ps : List ClientPart) (c k : ℕ) (was w : ClientPart) (l : ℕ × Command) (n : ℕ)
     → position (λ p. p.client == c) ps ≡ Some k → was ≡ get_or ps k was → w.client ≡ was.client
     → map line_said w.lines.items ≡ map line_said was.lines.items ++ l ∷ []
     → map (lines_at (set ps k w)) (range_with_len 0 n)
     ≡ changed_at c (λ lines. lines ++ l ∷ []) (map (lines_at ps) (range_with_len 0 n))
 with_more ps c k was w l n first at same is =
     let found = position-Some (λ p. p.client == c) ps k was first in
-    let own : (was.client == c) ≡ true = subst (λ (q : Part). (q.client == c) ≡ true) (sym at) found.1 in
+    let own : (was.client == c) ≡ true = subst (λ (q : ClientPart). (q.client == c) ≡ true) (sym at) found.1 in
     changed_from (lines_at ps) (lines_at (set ps k w)) (λ lines. lines ++ l ∷ []) c
     (λ i other. more_other ps i k was w found.0 at same
     (ne_eqb was.client i (λ e. other (sym e ∙ eqb-true was.client c own))))
     (more_own ps c k was w l found.0 at own found.2 same is) 0 n c (omega arith)
 
 -- the lines of the client whose part stands at a place
-found_at : (ps : List Part) (c k : ℕ) (was : Part) → k < length ps → was ≡ get_or ps k was
+found_at : (ps : List ClientPart) (c k : ℕ) (was : ClientPart) → k < length ps → was ≡ get_or ps k was
     → (was.client == c) ≡ true → ((j : ℕ) → j < k → ((get_or ps j was).client == c) ≡ false)
     → map line_said was.lines.items ≡ lines_at ps c
 found_at [] c k was within at found before = absurd (omega (arith, within))
 found_at (p ∷ ps) c zero was within at found before =
-    subst (λ (q : Part). map line_said was.lines.items
+    subst (λ (q : ClientPart). map line_said was.lines.items
     ≡ cond (q.client == c) (map line_said q.lines.items) (lines_at ps c))
     at (rw found)
 found_at (p ∷ ps) c (suc k) was within at found before = rw (before 0 (omega arith))
     (found_at ps c k was (omega (arith, within)) at found (λ j below. before (suc j) (omega (arith, below))))
 
-pub lines_found : (ps : List Part) (c k : ℕ) (was : Part) → position (λ p. p.client == c) ps ≡ Some k
+pub lines_found : (ps : List ClientPart) (c k : ℕ) (was : ClientPart) → position (λ p. p.client == c) ps ≡ Some k
     → was ≡ get_or ps k was → map line_said was.lines.items ≡ lines_at ps c
 lines_found ps c k was first at =
     let found = position-Some (λ p. p.client == c) ps k was first in
-    found_at ps c k was found.0 at (subst (λ (q : Part). (q.client == c) ≡ true) (sym at) found.1) found.2
+    found_at ps c k was found.0 at (subst (λ (q : ClientPart). (q.client == c) ≡ true) (sym at) found.1) found.2
 
-none_of : (ps : List Part) (c : ℕ) → list_any (λ p. p.client == c) ps ≡ false → lines_at ps c ≡ []
+none_of : (ps : List ClientPart) (c : ℕ) → list_any (λ p. p.client == c) ps ≡ false → lines_at ps c ≡ []
 none_of [] c none = refl
 none_of (p ∷ ps) c none =
     let no = neither (p.client == c) (list_any (λ q. q.client == c) ps) none in rw (no.0) (none_of ps c no.1)
 
-pub lines_none : (ps : List Part) (c : ℕ) → position (λ p. p.client == c) ps ≡ None → lines_at ps c ≡ []
+pub lines_none : (ps : List ClientPart) (c : ℕ) → position (λ p. p.client == c) ps ≡ None → lines_at ps c ≡ []
 lines_none ps c none = none_of ps c (none_from (λ p. p.client == c) ps 0
     (sym (position_from-zero (λ p. p.client == c) ps) ∙ none))

@@ -6,8 +6,8 @@ use Rattle.script_parser.specs.declared.faults.LineFault.{LineFault}
 use Rattle.script_parser.specs.declared.faults.LineFault.TheVariants as line
 use Rattle.script_parser.specs.declared.faults.ScriptFault.{ScriptFault}
 use Rattle.script_parser.specs.declared.faults.ScriptFault.TheVariants as text
-use Rattle.script_parser.specs.declared.script.Asked.{Asked}
-use Rattle.script_parser.specs.declared.script.Asked.TheVariants as asked
+use Rattle.script_parser.specs.declared.script.LineKind.{LineKind}
+use Rattle.script_parser.specs.declared.script.LineKind.TheVariants as asked
 use Rattle.script_parser.specs.declared.reader.LineReader.{LineReader}
 use Rattle.script_parser.specs.declared.script.Header.{Header}
 use Rattle.script_parser.specs.Context.{Context}
@@ -22,7 +22,7 @@ unfoldable pub bytes_said_with : Context → ℕ → Bytes → Result Context Sc
 bytes_said_with c n l = if is_utf8 l then said_with c n l else Err text.NotUtf8
 
 -- what is said where this is asked, and this is said beside it
-abbrev pub with_asked : Asked → Context → Context
+abbrev pub with_asked : LineKind → Context → Context
 with_asked asked.Nothing c = c
 with_asked asked.Phase c = record c { phases = c.phases ++ new_phase (length c.clients) ∷ [] }
 with_asked (asked.Command client l) c = record c { phases = with_line client (line_said l) c.phases }
@@ -33,7 +33,7 @@ kept_by reader = context_of reader.parser
 
 -- What a line of this number asks. Nothing: the phases are as they were. A phase: there is one more. A command of the
 -- client at a place, where there is a phase: it is the last line of that client in the last one.
-abbrev pub AsksFor : ℕ → Context → Asked → Context → Type 0
+abbrev pub AsksFor : ℕ → Context → LineKind → Context → Type 0
 AsksFor n c asked.Nothing said = said.phases ≡ c.phases
 AsksFor n c asked.Phase said = said.phases ≡ c.phases ++ new_phase (length c.clients) ∷ []
 AsksFor n c (asked.Command client l) said =
@@ -42,14 +42,14 @@ AsksFor n c (asked.Command client l) said =
 
 -- A line of this number is taken, of which this is right. One that isn't faulty: what it asks, and what is said with it
 -- is kept without lines. A faulty one: its fault, and nothing more is kept; where memory is refused, nothing is either.
-abbrev pub TakesAs : Result Context ScriptFault → ℕ → Context → Result Asked LineFault → Context → Type 0
+abbrev pub TakesAs : Result Context ScriptFault → ℕ → Context → Result LineKind LineFault → Context → Type 0
 TakesAs right n c (Ok asked) kept =
     (said : Context) × (right ≡ Ok said) × AsksFor n c asked said × (kept ≡ without_lines said)
 TakesAs right n c (Err (line.Script f)) kept = (right ≡ Err f) × (kept ≡ c)
 TakesAs right n c (Err line.NoMemory) kept = kept ≡ c
 
 -- these bytes are taken as a line of this number
-abbrev pub Takes : ℕ → Bytes → Context → Result Asked LineFault → Context → Type 0
+abbrev pub Takes : ℕ → Bytes → Context → Result LineKind LineFault → Context → Type 0
 Takes n l c taken kept = TakesAs (bytes_said_with c n l) n c taken kept
 
 -- the header is what was said

@@ -8,7 +8,7 @@ use Rattle.script_parser.specs.declared.script.ClientLine.{ClientLine}
 use Rattle.script_parser.specs.declared.script.Command.{Command}
 use Rattle.script_parser.specs.declared.script.Command.TheVariants as command
 use Rattle.script_parser.specs.declared.script.Line.{Line}
-use Rattle.script_parser.specs.declared.script.Part.{Part}
+use Rattle.script_parser.specs.declared.script.ClientPart.{ClientPart}
 use Rattle.script_parser.specs.declared.script.Phase.{Phase}
 use Rattle.script_parser.specs.declared.script.Script.{Script}
 use Rattle.script_parser.specs.Context.{Context, Lines}
@@ -22,7 +22,7 @@ abbrev pub line_said : Line → ℕ × Command
 line_said line = (line.number, line.command)
 
 -- what the lines of the client at a place have said; of a client without a part there are none
-abbrev pub lines_at : List Part → ℕ → Lines
+abbrev pub lines_at : List ClientPart → ℕ → Lines
 lines_at [] client = []
 lines_at (p ∷ ps) client = if p.client == client then map line_said p.lines.items else lines_at ps client
 

@@ -6,7 +6,7 @@ ghost use Rattle.script_parser.specs.Inside.Parsing.{context_of};
 use crate::faults::{LineFault, ScriptFault};
 use crate::lines::{first_word, is_ticket_name, rest};
 use crate::parser::Parser;
-use crate::script::{Asked, Command, Line};
+use crate::script::{Command, Line, LineKind};
 use crate::words::scan_words;
 use group_history::Text;
 use std::alloc::AllocError;
@@ -23,7 +23,7 @@ impl Parser {
         number: u64,
         word: &str,
         rest: Option<&str>,
-    ) -> Result<Asked, LineFault>
+    ) -> Result<LineKind, LineFault>
         requires { 0 < length (context_of self.old).phases }
         ensures { Asks number (command_line (context_of self.old) number word.now (option_copied rest.entry))
             (context_of self.old) (context_of self.new) result }
@@ -32,7 +32,7 @@ impl Parser {
             return Err(LineFault::Script(ScriptFault::UnknownClient));
         };
         let command = self.command_of(client, rest)?;
-        Ok(Asked::Command(client, Line { number, command }))
+        Ok(LineKind::Command(client, Line { number, command }))
     }
 
     #[tactic(auto, unfolding(crate::specs::Commands::command_of))]

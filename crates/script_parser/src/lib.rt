@@ -20,5 +20,5 @@ pub use faults::{Fault, LineFault, ScriptFault};
 pub use parser::read_script;
 pub use reader::LineReader;
 pub use script::{
-    Asked, ClientLine, Command, Header, Line, MutatorCall, Phase, Query, Script, uuid_text,
+    ClientLine, Command, Header, Line, LineKind, MutatorCall, Phase, Query, Script, uuid_text,
 };

@@ -17,7 +17,7 @@ ghost use Rattle.script_parser.specs.declared.faults.Fault.TheVariants as fault;
 use crate::faults::{Fault, LineFault, ScriptFault};
 use crate::lines::{first_word, no_words};
 use crate::names::Names;
-use crate::script::{Asked, Header, Line, Phase, Script};
+use crate::script::{Header, Line, LineKind, Phase, Script};
 use std::alloc::{AllocError, Global};
 
 /// Takes the lines of a script, one after the other.
@@ -38,7 +38,7 @@ impl Parser {
     ghost use Rattle.script_parser.specs.Inside.Faults.{Asks, Follows};
     ghost use Rattle.script_parser.specs.Inside.Reading.{settled};
     ghost use Rattle.script_parser.specs.Reading.{with_asked};
-    ghost use Rattle.script_parser.specs.declared.script.Asked.TheVariants as kind;
+    ghost use Rattle.script_parser.specs.declared.script.LineKind.TheVariants as kind;
 
     pub(crate) fn new(alloc: Global) -> Parser
         ensures { context_of result ≡ nothing_said }
@@ -63,38 +63,38 @@ impl Parser {
         ensures { Follows (said_with (context_of self.old) number line.now) (context_of self.new) result }
     {
         match self.ask(number, line)? {
-            Asked::Nothing => {}
-            Asked::Phase => self.begin_phase()?,
-            Asked::Command(client, line) => self.keep(client, line)?,
+            LineKind::Nothing => {}
+            LineKind::Phase => self.begin_phase()?,
+            LineKind::Command(client, line) => self.keep(client, line)?,
         }
         Ok(())
     }
 
     /// What a line asks, which is not kept. What it says beside that is.
     #[tactic(auto, unfolding(crate::specs::Faults::said_with, crate::specs::Faults::is_skipped))]
-    pub(crate) fn ask(&mut self, number: u64, line: &str) -> Result<Asked, LineFault>
+    pub(crate) fn ask(&mut self, number: u64, line: &str) -> Result<LineKind, LineFault>
         ensures { Asks number (said_with (context_of self.old) number line.now)
             (context_of self.old) (context_of self.new) result }
     {
         if line.is_empty() || line.starts_with('#') {
-            return Ok(Asked::Nothing);
+            return Ok(LineKind::Nothing);
         }
         let (word, rest) = first_word(line);
         self.words(number, word, rest)
     }
 
     #[tactic(auto, unfolding(crate::specs::Faults::words_line, crate::specs::Commands::phase_line))]
-    fn words(&mut self, number: u64, word: &str, rest: Option<&str>) -> Result<Asked, LineFault>
+    fn words(&mut self, number: u64, word: &str, rest: Option<&str>) -> Result<LineKind, LineFault>
         ensures { Asks number (words_line (context_of self.old) number word.now (option_copied rest.entry))
             (context_of self.old) (context_of self.new) result }
     {
         if word == "phase" {
             no_words(rest)?;
-            return Ok(Asked::Phase);
+            return Ok(LineKind::Phase);
         }
         if self.phases.is_empty() {
             self.header_line(word, rest)?;
-            return Ok(Asked::Nothing);
+            return Ok(LineKind::Nothing);
         }
         self.command_line(number, word, rest)
     }
@@ -110,13 +110,13 @@ impl Parser {
     }
 
     /// Notes that a phase has begun, where the first one is asked.
-    pub(crate) fn settle(&mut self, asked: &Asked) -> Result<(), AllocError>
+    pub(crate) fn settle(&mut self, asked: &LineKind) -> Result<(), AllocError>
         ensures settled { OnOk result (context_of self.new ≡ settled asked.now (context_of self.old)) }
         ensures left { OnErr result (context_of self.new ≡ context_of self.old) }
         ensures asked { OnErr result (asked.now ≡ kind.Phase) }
     {
         match asked {
-            Asked::Phase if self.phases.is_empty() => self.begin_phase(),
+            LineKind::Phase if self.phases.is_empty() => self.begin_phase(),
             _ => Ok(()),
         }
     }

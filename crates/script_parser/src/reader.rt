@@ -9,7 +9,7 @@ ghost use Rattle.script_parser.specs.Inside.Parsing.{context_of};
 
 use crate::faults::{LineFault, ScriptFault};
 use crate::parser::Parser;
-use crate::script::{Asked, Header};
+use crate::script::{Header, LineKind};
 use std::alloc::Global;
 
 /// Takes the lines of a script, one after the other, and keeps none.
@@ -42,7 +42,7 @@ impl LineReader {
 
     /// Takes a line of this number, counted from 1, without its line feed, and answers what it asks. Where it is
     /// faulty, or memory is refused, the reader is as it was. From the first phase on no client is added.
-    pub fn take(&mut self, number: u64, line: &[u8]) -> Result<Asked, LineFault>
+    pub fn take(&mut self, number: u64, line: &[u8]) -> Result<LineKind, LineFault>
         ensures taken { Takes number line.now (kept_by self.old) result (kept_by self.new) }
         ensures clients { 0 < length (kept_by self.old).phases
             → (kept_by self.new).clients ≡ (kept_by self.old).clients }
@@ -54,7 +54,7 @@ impl LineReader {
         }
     }
 
-    fn take_text(&mut self, number: u64, line: &str) -> Result<Asked, LineFault>
+    fn take_text(&mut self, number: u64, line: &str) -> Result<LineKind, LineFault>
         ensures taken { TakesAs (said_with (kept_by self.old) number line.now) number (kept_by self.old) result
             (kept_by self.new) }
         ensures clients { 0 < length (kept_by self.old).phases

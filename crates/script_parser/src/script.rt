@@ -110,7 +110,7 @@ pub struct Line {
 
 /// What a line asks.
 #[derive(Drop)]
-pub enum Asked {
+pub enum LineKind {
     /// Nothing: it stands before the first phase, is empty or begins with `#`.
     Nothing,
     /// A new phase.
@@ -121,7 +121,7 @@ pub enum Asked {
 
 /// The lines of one client in a phase.
 #[derive(Drop)]
-pub(crate) struct Part {
+pub(crate) struct ClientPart {
     /// Its place among the `client` lines.
     client: usize,
     lines: Vec<Line>,
@@ -133,7 +133,7 @@ pub(crate) struct Part {
 pub struct Phase {
     /// How many clients the script has.
     clients: usize,
-    parts: Vec<Part>,
+    parts: Vec<ClientPart>,
 }
 
 /// A script, checked whole.
@@ -259,7 +259,7 @@ impl Phase {
     {
         let mut lines = Vec::with_capacity(alloc, 1)?;
         lines.push(line)?;
-        self.parts.push(Part { client, lines })?;
+        self.parts.push(ClientPart { client, lines })?;
         Ok(())
     }
 }

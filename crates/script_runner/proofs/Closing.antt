@@ -1,7 +1,8 @@
 -- Readings that are open at the end of a run end, and what is known of their clients then was true before.
 use Rattle.std.proofs.Common.{◌≡◌, ◌<◌, ◌+◌, ℕ, inl, inr, true, List, Some, length, slice_index_or, slice_set}
 use Rattle.std.proofs.Common.{refl, sym, ap, subst, ◌∙◌, arith}
-use Rattle.std.proofs.lemmas.List.{get_or-map, get_or-set_other, get_or-set_same, get_or_default, length-map, length-set}
+use Rattle.std.proofs.lemmas.List.{get_or-map, get_or-set_other, get_or-set_same}
+use Rattle.std.proofs.lemmas.List.{get_or_default, length-map, length-set}
 use Rattle.std.specs.List.{All}
 use Rattle.std.specs.Option.{option_or}
 use mathlib.Core.List.{IsPrefix}
@@ -11,13 +12,13 @@ use Rattle.head_word.specs.Books.{opening, opening_ref}
 use Rattle.head_word.specs.Marks.{Known, own}
 use Rattle.rebase.specs.Clients.{ClientState}
 use Rattle.rebase.proofs.Seating.{below_or_at}
-use Rattle.client_desk.specs.declared.calls.Call.TheVariants as call
-use Rattle.client_desk.specs.declared.faults.Fault.TheVariants as fault
+use Rattle.client_desk.specs.declared.calls.DeskCall.TheVariants as call
+use Rattle.client_desk.specs.declared.faults.CallFault.TheVariants as fault
 use Rattle.client_desk.specs.Answers.{At, EndsReading}
 use Rattle.client_desk.specs.Calls.{MayAnswer, MayAnswerAt}
 use Rattle.client_desk.specs.Places.{PlaceState}
 use Rattle.client_desk.specs.Told.{Told}
-use Rattle.script_runner.specs.declared.phase.Turn.{Turn}
+use Rattle.script_runner.specs.declared.phase.ClientTurn.{ClientTurn}
 use Rattle.script_runner.specs.Commanding.{Player}
 use Rattle.script_runner.specs.Records.{IsIn, IsRecordOf}
 use Rattle.script_runner.specs.Inside.Players.{player_of, players_of}
@@ -29,7 +30,7 @@ use Rattle.script_runner.proofs.Turns.{some_of}
 
 module _ {M : Type 0} where
   -- the call that ends a reading, also where none is open
-  pub through : (means : Meanings) (old new : Turn M) (t : Told) → IsManned old
+  pub through : (means : Meanings) (old new : ClientTurn M) (t : Told) → IsManned old
       → MayAnswer (λ name. true) means call.EndRead old.client.place t new.client.place → HasReadThrough old new
   through means old new t was h =
       let c = was.0 in let b = old.client.place in let a = new.client.place in
@@ -41,7 +42,11 @@ module _ {M : Type 0} where
                 client = c;
                 next = c;
                 was = was.1;
-                sits = (ap (λ (p : PlaceState). p.client) e.1 ∙ sits.0, ap (λ (p : PlaceState). p.reading) e.1 ∙ sits.1);
+                sits = (
+                  ap (λ (p : PlaceState). p.client) e.1 ∙ sits.0,
+                  ap (λ (p : PlaceState). p.reading) e.1
+                      ∙ sits.1,
+                );
                 calm = ap (λ (p : PlaceState). p.asking) e.1 ∙ was.1.calm;
                 mark = refl;
                 group = ap (λ (p : PlaceState). p.group) e.1;
@@ -60,7 +65,7 @@ module _ {M : Type 0} where
       ]
 
   -- one client more
-  pub through_more : (old turns : List (Turn M)) (i : ℕ) (turn new : Turn M) → i < length old
+  pub through_more : (old turns : List (ClientTurn M)) (i : ℕ) (turn new : ClientTurn M) → i < length old
       → HaveReadThrough i old turns → turn ≡ slice_index_or turns i turn → HasReadThrough turn new
       → HaveReadThrough (i + 1) old (slice_set turns i new)
   through_more old turns i turn new low were is through =
@@ -87,7 +92,7 @@ module _ {M : Type 0} where
       }
 
   -- a turn whose client may have a reading open
-  pub manned_at : (old turns : List (Turn M)) (i : ℕ) (turn : Turn M) → i < length old → All IsManned old
+  pub manned_at : (old turns : List (ClientTurn M)) (i : ℕ) (turn : ClientTurn M) → i < length old → All IsManned old
       → HaveReadThrough i old turns → turn ≡ slice_index_or turns i turn → IsManned turn
   manned_at old turns i turn low all were is =
       let was : turn ≡ slice_index_or old i turn = is ∙ were.rest i turn (omega arith) low in
@@ -95,10 +100,11 @@ module _ {M : Type 0} where
 
   -- one client was on its seat, and is in the book
 
-  read_seated : (count commit number : ℕ) (old new : Turn M) → HasReadThrough old new
+  read_seated : (count commit number : ℕ) (old new : ClientTurn M) → HasReadThrough old new
       → IsSeated count commit number old.client.place → IsSeated count commit number new.client.place
   read_seated count commit number old new h was =
-      let same = one_client was.client h.client old.client.place was.is (client_there h.client old.client.place h.was) in
+      let same = one_client was.client h.client old.client.place was.is
+      (client_there h.client old.client.place h.was) in
       let mark : h.next.seat.mark ≡ was.client.seat.mark =
       h.mark ∙ ap (λ (c : ClientState). c.seat.mark) (sym same) in
       record {
@@ -108,7 +114,7 @@ module _ {M : Type 0} where
         opened = subst (λ (m : Known). IsPrefix (opening count (opening_ref commit)) m.log) (sym mark) was.opened;
       }
 
-  read_in : (book : List Entry) (number : ℕ) (old new : Turn M) → HasReadThrough old new
+  read_in : (book : List Entry) (number : ℕ) (old new : ClientTurn M) → HasReadThrough old new
       → IsIn book number (player_of new.client) → IsIn book number (player_of old.client)
   read_in book number old new h i =
       let whole : Some i.client ≡ Some h.next =
@@ -125,7 +131,7 @@ module _ {M : Type 0} where
 
   -- and so are all
 
-  module _ (old new : List (Turn M)) (h : HaveReadThrough (length old) old new) where
+  module _ (old new : List (ClientTurn M)) (h : HaveReadThrough (length old) old new) where
     pub all_sit : All IsSitting new
     all_sit k d below =
         let in_old : k < length old = omega (below, h.count, arith) in
@@ -139,10 +145,11 @@ module _ {M : Type 0} where
           (h.each k d in_old in_old).group ∙ one.1 k d in_old,
     )
 
-    abbrev player : Turn M → Player
+    abbrev player : ClientTurn M → Player
     player t = player_of t.client
 
-    pub all_seated : (count commit : ℕ) → AreSeated count commit (players_of old) → AreSeated count commit (players_of new)
+    pub all_seated : (count commit : ℕ) → AreSeated count commit (players_of old)
+        → AreSeated count commit (players_of new)
     all_seated count commit were i p below =
         let in_new : i < length new = omega (below, length-map new player, arith) in
         let in_old : i < length old = omega (in_new, h.count, arith) in

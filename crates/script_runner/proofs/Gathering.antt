@@ -1,5 +1,6 @@
 -- The one record of a run, by what its clients learnt at its end.
-use Rattle.std.proofs.Common.{◌≡◌, ◌<◌, ◌+◌, ℕ, zero, suc, inl, inr, slice_set, List, [], ◌∷◌, ◌++◌, Some, length, slice_index_or}
+use Rattle.std.proofs.Common.{◌≡◌, ◌<◌, ◌+◌, ℕ, zero, suc, inl, inr, slice_set, List, [], ◌∷◌, ◌++◌}
+use Rattle.std.proofs.Common.{Some, length, slice_index_or}
 use Rattle.std.proofs.Common.{refl, sym, ap, subst, ◌∙◌, length-append, arith}
 use Rattle.std.proofs.lemmas.List.{append-nil, get_or-map, get_or-set_other, get_or-set_same}
 use Rattle.std.proofs.lemmas.List.{get_or_default, length-map, length-set}
@@ -13,12 +14,12 @@ use Rattle.head_word.specs.Books.{IsOpened, opening, opening_ref, seats_of}
 use Rattle.head_word.specs.Marks.{own, own_of}
 use Rattle.head_word.specs.Tallies.{mine}
 use Rattle.head_word.proofs.Counting.{mine_more}
-use Rattle.commit_graph.specs.Seats.{IsSameSeat, Seated}
+use Rattle.commit_graph.specs.Seats.{IsSameSeat, SeatState}
 use Rattle.rebase.specs.Clients.{ClientState}
 use Rattle.rebase.proofs.Seating.{below_or_at}
 use Rattle.client_desk.specs.Learning.{LearnsAt, sight_of}
-use Rattle.script_runner.specs.declared.phase.Turn.{Turn}
-use Rattle.script_runner.specs.Commanding.{Learns, Player}
+use Rattle.script_runner.specs.declared.phase.ClientTurn.{ClientTurn}
+use Rattle.script_runner.specs.Commanding.{LearnsFirst, Player}
 use Rattle.script_runner.specs.Records.{IsIn, IsRecordOf}
 use Rattle.script_runner.specs.Sights.{sight_at}
 use Rattle.script_runner.specs.Inside.Players.{player_of, players_of}
@@ -28,13 +29,13 @@ use Rattle.script_runner.specs.Inside.Records.{log_of}
 use Rattle.script_runner.specs.Inside.Turns.{AreOf, AreOfOneGroup}
 use Rattle.script_runner.proofs.Seated.{begins, one_client}
 
-same_seat : (s : Seated) → IsSameSeat s s
+same_seat : (s : SeatState) → IsSameSeat s s
 same_seat s = record {
   table = refl;
   later = record { book = refl; seat = refl; seen = ([], append-nil s.mark.log) };
 }
 
-pub still_same : (a b c : Seated) → IsSameSeat a b → IsSameSeat b c → IsSameSeat a c
+pub still_same : (a b c : SeatState) → IsSameSeat a b → IsSameSeat b c → IsSameSeat a c
 still_same a b c p q = record {
   table = q.table ∙ p.table;
   later = record {
@@ -46,7 +47,7 @@ still_same a b c p q = record {
 
 module _ {M : Type 0} where
   -- nothing was learnt yet
-  pub unlearnt : (turn : Turn M) → IsSitting turn → HasLearnt turn turn
+  pub unlearnt : (turn : ClientTurn M) → IsSitting turn → HasLearnt turn turn
   unlearnt turn sits = record {
     client = sits.0;
     next = sits.0;
@@ -58,12 +59,12 @@ module _ {M : Type 0} where
   }
 
   -- one more was heard of, whose client sits at its place
-  pub heard : (old turn new other : Turn M) → HasLearnt old turn → IsSitting other
-      → Learns (sight_at other.client.place) turn.client.place new.client.place → HasLearnt old new
+  pub heard : (old turn new other : ClientTurn M) → HasLearnt old turn → IsSitting other
+      → LearnsFirst (sight_at other.client.place) turn.client.place new.client.place → HasLearnt old new
       × IsPrefix (log_at turn) (log_at new) × Covers new other
   heard old turn new other were sits learns =
       let o = sits.0 in
-      let by_sight = subst (λ x. Learns x turn.client.place new.client.place)
+      let by_sight = subst (λ x. LearnsFirst x turn.client.place new.client.place)
       (ap (λ x. option_map sight_of (option_or x other.client.place.reading)) sits.1) learns in
       let l = subst (λ x. LearnsAt x (sight_of o) turn.client.place new.client.place) were.sits by_sight in
       let now : new.client.place.client ≡ Some l.next = ap (λ p. p.client) l.left in (
@@ -83,15 +84,16 @@ module _ {M : Type 0} where
       )
 
   -- those that were covered are covered still
-  pub still_covers : (turn new : Turn M) (others : List (Turn M)) → IsPrefix (log_at turn) (log_at new)
+  pub still_covers : (turn new : ClientTurn M) (others : List (ClientTurn M)) → IsPrefix (log_at turn) (log_at new)
       → All (Covers turn) others → All (Covers new) others
   still_covers turn new others more all k d below =
       begins (log_at (slice_index_or others k d)) (log_at turn) (log_at new) (all k d below) more
 
   -- one client more has learnt it
-  pub confirmed_more : (other : Turn M) (old turns : List (Turn M)) (i : ℕ) (turn new : Turn M) → i < length old
+  pub confirmed_more : (other : ClientTurn M) (old turns : List (ClientTurn M)) (i : ℕ) (turn new : ClientTurn M)
+      → i < length old
       → IsSitting other → All IsSitting old → AreConfirmed i other old turns → turn ≡ slice_index_or turns i turn
-      → Learns (sight_at other.client.place) turn.client.place new.client.place
+      → LearnsFirst (sight_at other.client.place) turn.client.place new.client.place
       → AreConfirmed (i + 1) other old (slice_set turns i new)
   confirmed_more other old turns i turn new low sits all were is learns =
       let was : turn ≡ slice_index_or old i turn = is ∙ were.rest i turn (omega arith) low in
@@ -119,14 +121,14 @@ module _ {M : Type 0} where
       }
 
   -- the others are of the first one's group
-  pub of_first : (turns rest : List (Turn M)) (first : Turn M) → turns ≡ first ∷ rest → AreOfOneGroup turns
+  pub of_first : (turns rest : List (ClientTurn M)) (first : ClientTurn M) → turns ≡ first ∷ rest → AreOfOneGroup turns
       → AreOf first.client.place.group rest
   of_first turns rest first is one =
       let all = subst (AreOf one.0) is one.1 in
       λ k d below. all (suc k) d (omega (below, arith)) ∙ sym (all 0 first (omega arith))
 
   -- places that have clients do
-  pub manned_of : (count commit : ℕ) (turns : List (Turn M)) → AreSeated count commit (players_of turns)
+  pub manned_of : (count commit : ℕ) (turns : List (ClientTurn M)) → AreSeated count commit (players_of turns)
       → All IsManned turns
   manned_of count commit turns seated k d below =
       let at = get_or-map (λ t. player_of t.client) turns k d (player_of d.client) below in
@@ -155,7 +157,7 @@ between k xs ys zs p q same =
 
 module _ {M : Type 0} (count commit : ℕ) where
   -- the client of the turn is the one that sits there
-  the_client : (old : Turn M) (number : ℕ) (c : ClientState) → old.client.place.client ≡ Some c
+  the_client : (old : ClientTurn M) (number : ℕ) (c : ClientState) → old.client.place.client ≡ Some c
       → IsSeated count commit number old.client.place → (c.seat.mark.seat ≡ Some number)
       × IsPrefix (opening count (opening_ref commit)) c.seat.mark.log
   the_client old number c is seated =
@@ -165,14 +167,15 @@ module _ {M : Type 0} (count commit : ℕ) where
         subst (λ x. IsPrefix (opening count (opening_ref commit)) x.seat.mark.log) same seated.opened,
       )
 
-  own_next : (old new : Turn M) (number : ℕ) (h : HasLearnt old new) → IsSeated count commit number old.client.place
+  own_next : (old new : ClientTurn M) (number : ℕ) (h : HasLearnt old new)
+      → IsSeated count commit number old.client.place
       → own_of (Some number) h.next.seat.mark.log ≡ own h.client.seat.mark
   own_next old new number h seated =
       let seat = h.seat.later.seat ∙ (the_client old number h.client h.sat seated).0 in
       ap (λ s. own_of s h.next.seat.mark.log) (sym seat) ∙ h.own
 
   -- the client that heard of all others
-  pub first_in : (old new : Turn M) → HasLearnt old new → IsSeated count commit 0 old.client.place
+  pub first_in : (old new : ClientTurn M) → HasLearnt old new → IsSeated count commit 0 old.client.place
       → IsIn (log_at new) 0 (player_of old.client)
   first_in old new h seated = record {
     client = h.client;
@@ -183,7 +186,7 @@ module _ {M : Type 0} (count commit : ℕ) where
   }
 
   -- one of the others
-  pub other_in : (book : List Entry) (number : ℕ) (old new : Turn M) → HasLearnt old new
+  pub other_in : (book : List Entry) (number : ℕ) (old new : ClientTurn M) → HasLearnt old new
       → IsSeated count commit number old.client.place → IsPrefix (log_at old) book → IsPrefix book (log_at new)
       → IsIn book number (player_of old.client)
   other_in book number old new h seated before behind =
@@ -202,12 +205,14 @@ module _ {M : Type 0} (count commit : ℕ) where
       }
 
   -- all clients are in the book that the first of them has seen
-  pub gathered : (means : Meanings) (turns rest others : List (Turn M)) (first now : Turn M) → turns ≡ first ∷ rest
-      → HasLearnt first now → All (Covers now) rest → AreConfirmed (length rest) now rest others → IsOpened means (log_at now)
+  pub gathered : (means : Meanings) (turns rest others : List (ClientTurn M)) (first now : ClientTurn M)
+      → turns ≡ first ∷ rest
+      → HasLearnt first now → All (Covers now) rest → AreConfirmed (length rest) now rest others
+      → IsOpened means (log_at now)
       → count ≡ length turns → AreSeated count commit (players_of turns)
       → (book : List Entry) × IsRecordOf means (players_of turns) book
   gathered means turns rest others first now is learnt covers confirmed legal many seated =
-      subst (λ (ts : List (Turn M)). count ≡ length ts → AreSeated count commit (players_of ts)
+      subst (λ (ts : List (ClientTurn M)). count ≡ length ts → AreSeated count commit (players_of ts)
       → (book : List Entry) × IsRecordOf means (players_of ts) book) (sym is) (λ many seated.
       let book = log_at now in let sat = seated 0 (player_of first.client) (omega arith) in
       let in_first = first_in first now learnt sat in
@@ -222,10 +227,12 @@ module _ {M : Type 0} (count commit : ℕ) where
         },
       )) many seated
     where
-      each : (rest others : List (Turn M)) (first now : Turn M) (learnt : HasLearnt first now)
-          → All (Covers now) rest → AreConfirmed (length rest) now rest others → IsIn (log_at now) 0 (player_of first.client)
+      each : (rest others : List (ClientTurn M)) (first now : ClientTurn M) (learnt : HasLearnt first now)
+          → All (Covers now) rest → AreConfirmed (length rest) now rest others
+          → IsIn (log_at now) 0 (player_of first.client)
           → AreSeated count commit (players_of (first ∷ rest)) → (i : ℕ) (p : Player)
-          → i < length (players_of (first ∷ rest)) → IsIn (log_at now) i (slice_index_or (players_of (first ∷ rest)) i p)
+          → i < length (players_of (first ∷ rest))
+          → IsIn (log_at now) i (slice_index_or (players_of (first ∷ rest)) i p)
       each rest others first now learnt covers confirmed in_first seated zero p below = in_first
       each rest others first now learnt covers confirmed in_first seated (suc k) p below =
           let below' : k < length rest = omega (below, length-map rest (λ t. player_of t.client), arith) in

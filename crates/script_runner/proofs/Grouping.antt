@@ -12,9 +12,9 @@ use Rattle.rebase.specs.Clients.{ClientState, Grouped}
 use Rattle.client_desk.specs.Told.{Told}
 use Rattle.script_parser.specs.declared.script.Command.{Command}
 use Rattle.script_runner.specs.declared.client.ScriptClient.{ScriptClient}
-use Rattle.script_runner.specs.declared.phase.Turn.{Turn}
+use Rattle.script_runner.specs.declared.phase.ClientTurn.{ClientTurn}
 use Rattle.script_runner.specs.Answering.{IsToldAt}
-use Rattle.script_runner.specs.Commanding.{Learns, MayTell, Player}
+use Rattle.script_runner.specs.Commanding.{LearnsFirst, MayTell, Player}
 use Rattle.script_runner.specs.Printing.{line_text, told_text}
 use Rattle.script_runner.specs.Sights.{seen_behind, sight_at}
 use Rattle.script_runner.specs.Inside.Calls.{IsCalledAt}
@@ -24,7 +24,7 @@ use Rattle.script_runner.proofs.Openings.{of_group}
 use Rattle.script_runner.proofs.Telling.{prints}
 
 -- new clients are of their group
-pub are_of : {M : Type 0} (means : Meanings) (group : Grouped) (count commit : ℕ) (turns : List (Turn M))
+pub are_of : {M : Type 0} (means : Meanings) (group : Grouped) (count commit : ℕ) (turns : List (ClientTurn M))
     → AreNewIn means group count commit turns → AreOf group turns
 are_of means group count commit turns new k d below =
     of_group means group count commit k (player_of (slice_index_or turns k d).client) (new k d below)
@@ -41,15 +41,15 @@ seen_anew None seen now is = refl
 seen_anew (Some reader) seen now is = absurd (false≢true (sym is))
 
 -- a client at a place did a command, after it learnt what was seen
-pub called_at : {M : Type 0} (means : Meanings) (turns : List (Turn M)) (sights : List (Option Known))
-    (seen : Option Known) (place : ℕ) (c : Command) (old new : Turn M) (mid : ScriptClient M) (t : Told)
+pub called_at : {M : Type 0} (means : Meanings) (turns : List (ClientTurn M)) (sights : List (Option Known))
+    (seen : Option Known) (place : ℕ) (c : Command) (old new : ClientTurn M) (mid : ScriptClient M) (t : Told)
     (now : Option Known) → place < length (players_of turns) → old ≡ slice_index_or turns place old
-    → Learns seen old.client.place mid.place → mid.name ≡ old.client.name
+    → LearnsFirst seen old.client.place mid.place → mid.name ≡ old.client.name
     → MayTell means sights c mid.place t new.client.place → new.client.name ≡ mid.name
     → now ≡ seen_behind mid.place.reading seen (sight_at new.client.place)
     → IsCalledAt means sights seen place c (players_of turns) t (players_of (slice_set turns place new)) now
 called_at {M} means turns sights seen place c old new mid t now below at learnt first may second sees =
-    let player : Turn M → Player = λ t. player_of t.client in
+    let player : ClientTurn M → Player = λ t. player_of t.client in
     let within : place < length turns = subst (λ n. place < n) (length-map turns player) below in
     record {
       client = player old;
@@ -65,14 +65,15 @@ called_at {M} means turns sights seen place c old new mid t now below at learnt 
     }
 
 -- and its line was told
-pub told_at : {M : Type 0} (means : Meanings) (turns : List (Turn M)) (turn : Turn M) (sights : List (Option Known))
+pub told_at : {M : Type 0} (means : Meanings) (turns : List (ClientTurn M)) (turn : ClientTurn M)
+    (sights : List (Option Known))
     (seen : Option Known) (place : ℕ) (l : ℕ × Command) (before : List Player) (t : Told) (now : Option Known)
     (name out after : Bytes) → IsCalledAt means sights seen place l.1 before t (players_of turns) now
     → turn ≡ slice_index_or turns place turn → name ≡ turn.client.name
     → after ≡ out ++ line_text l.0 name (told_text l.1 t)
     → (text : Bytes) × (after ≡ out ++ text) × IsToldAt means sights seen place l before text (players_of turns) now
 told_at {M} means turns turn sights seen place l before t now name out after h at named printed =
-    let player : Turn M → Player = λ t. player_of t.client in
+    let player : ClientTurn M → Player = λ t. player_of t.client in
     let below = slice_get_within before place h.client h.at in
     let long : length turns ≡ length before =
     sym (length-map turns player) ∙ ap length h.left ∙ length-set before place h.next in

@@ -18,10 +18,11 @@ use Rattle.client_desk.specs.Told.{Told}
 use Rattle.script_parser.specs.declared.script.Command.{Command}
 use Rattle.script_runner.specs.Answering.{IsToldAt, moment_seen, record_seen}
 use Rattle.script_runner.specs.Inside.Exact.{IsExactAt}
-use Rattle.script_runner.specs.Commanding.{Learns, MayTell, Player}
+use Rattle.script_runner.specs.Commanding.{LearnsFirst, MayTell, Player}
 use Rattle.script_runner.specs.Settling.{AreSteady, IsWhole}
 use Rattle.script_runner.specs.Inside.Records.{IsClientOf}
-use Rattle.script_runner.specs.Plain.{IsDone, IsPlain, plain, plain_sitting, reading_at, reading_behind, reading_of}
+use Rattle.script_runner.specs.Plain.{IsDone, IsPlainlyTold, plain, plain_sitting}
+use Rattle.script_runner.specs.Plain.{reading_at, reading_behind, reading_of}
 use Rattle.script_runner.specs.Sights.{seen_behind, sight_at}
 use Rattle.script_runner.proofs.Plainly.{plainly}
 use Rattle.script_runner.proofs.Reading.{has_read, learns_none}
@@ -35,7 +36,7 @@ pub record Keeps (place mid : PlaceState) (c m : ClientState) : Type 0 where
   watches : mid.watches ≡ place.watches
 
 keeps : (seen : Option Known) (place mid : PlaceState) (c m : ClientState) → place.client ≡ Some c
-    → mid.client ≡ Some m → Learns seen place mid → Keeps place mid c m
+    → mid.client ≡ Some m → LearnsFirst seen place mid → Keeps place mid c m
 keeps None place mid c m sat sits h =
     let whole : Some m ≡ Some c = sym sits ∙ ap (λ (q : PlaceState). q.client) h ∙ sat in
     let same : m ≡ c = cc whole in
@@ -55,7 +56,7 @@ keeps (Some other) place mid c m sat sits h =
     }
 
 module _ (means : Meanings) (sights : List (Option Known)) (x : Command) (seen : Option Known)
-    (place mid next : PlaceState) (c : ClientState) (t : Told) (learnt : Learns seen place mid) where
+    (place mid next : PlaceState) (c : ClientState) (t : Told) (learnt : LearnsFirst seen place mid) where
   abbrev old : List Change
   old = record_seen seen
 
@@ -70,10 +71,11 @@ module _ (means : Meanings) (sights : List (Option Known)) (x : Command) (seen :
 
   -- So is the line of a client that sits at its place, where it is exact.
   pub plain_line : place.client ≡ Some c → IsCalm place → MayTell means sights x mid t next
-      → IsExactAt means seen mid next → IsPlain means x place next t old (sight_at next)
+      → IsExactAt means seen mid next → IsPlainlyTold means x place next t old (sight_at next)
   plain_line sat calm may exact =
       let k = caught_up c seen place mid sat calm learnt in
-      let is = plainly means seen exact.old exact.new mid next t exact.sat k.calm exact.there exact.exact sights x may in
+      let is = plainly means seen exact.old exact.new mid next t exact.sat k.calm exact.there exact.exact sights x
+      may in
       let kept = keeps seen place mid c exact.old sat exact.sat learnt in
       let none : reading_at place ≡ None = ap (option_map reading_of) calm.1 in
       record {
@@ -88,7 +90,7 @@ module _ (means : Meanings) (sights : List (Option Known)) (x : Command) (seen :
 
   -- and that of one that has a reading open
   pub plain_read : IsClientOf c place → place.client ≡ None → place.reading ≡ Some c → MayTell means sights x mid t next
-      → IsPlain means x place next t old seen
+      → IsPlainlyTold means x place next t old seen
   plain_read is none is_open may =
       let h = has_read means c place next t none is_open is.calm old sights x
       (subst (λ p. MayTell means sights x p t next) (learns_none seen place mid none learnt) may) in
@@ -107,7 +109,7 @@ module _ (means : Meanings) (sights : List (Option Known)) (x : Command) (seen :
 pub told_plain : (means : Meanings) (sights : List (Option Known)) (seen : Option Known) (place : ℕ) (l : ℕ × Command)
     (before : List Player) (text : Bytes) (after : List Player) (now : Option Known)
     (told : IsToldAt means sights seen place l before text after now) → AreSteady before seen → IsWhole after now
-    → IsPlain means l.1 told.client.place told.next.place told.may.t (record_seen seen) now
+    → IsPlainlyTold means l.1 told.client.place told.next.place told.may.t (record_seen seen) now
 told_plain means sights seen place l before text after now h was all =
     let t = h.may.t in
     let home = seated means sights seen place l.1 before h.client h.next h.mid t h.at h.learnt h.may.may was in
@@ -117,16 +119,17 @@ told_plain means sights seen place l before text after now h was all =
           let k = caught_up home.client seen h.client.place h.mid sits.0 calm h.learnt in
           let sees : now ≡ sight_at h.next.place =
           h.sees ∙ ap (λ o. seen_behind o seen (sight_at h.next.place)) k.calm.1 in
-          subst (λ o. IsPlain means l.1 h.client.place h.next.place t (record_seen seen) o) (sym sees)
+          subst (λ o. IsPlainlyTold means l.1 h.client.place h.next.place t (record_seen seen) o) (sym sees)
           (plain_line means sights l.1 seen h.client.place h.mid h.next.place home.client t h.learnt sits.0 calm
           h.may.may
-          (exact_sitting means sights seen place l.1 before h.client h.next h.mid t h.at h.learnt h.may.may was now sits.0
+          (exact_sitting means sights seen place l.1 before h.client h.next h.mid t h.at h.learnt h.may.may was now
+          sits.0
           calm sees (subst (λ ps. IsWhole ps now) h.left all)))
       | inr reads ↦
           let is_open : h.mid.reading ≡ Some home.client =
           ap (λ (p : PlaceState). p.reading) (learns_none seen h.client.place h.mid reads.0 h.learnt) ∙ reads.1 in
           let sees : now ≡ seen = h.sees ∙ ap (λ o. seen_behind o seen (sight_at h.next.place)) is_open in
-          subst (λ o. IsPlain means l.1 h.client.place h.next.place t (record_seen seen) o) (sym sees)
+          subst (λ o. IsPlainlyTold means l.1 h.client.place h.next.place t (record_seen seen) o) (sym sees)
           (plain_read means sights l.1 seen h.client.place h.mid h.next.place home.client t h.learnt home.is reads.0
           reads.1 h.may.may)
     ]

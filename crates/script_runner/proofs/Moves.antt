@@ -19,8 +19,8 @@ use Rattle.head_word.specs.Marks.{Known, own_of}
 use Rattle.head_word.specs.Tallies.{key_of, mine}
 use Rattle.head_word.proofs.Books.{record_more}
 use Rattle.head_word.proofs.Counting.{mine_more}
-use Rattle.answered.specs.Answered.{IsPoint, is_move, moves_for, own_moves}
-use Rattle.answered.proofs.AtOnce.{record_at}
+use Rattle.linearized.specs.Answered.{IsPoint, is_move, moves_for, own_moves}
+use Rattle.linearized.proofs.AtOnce.{record_at}
 
 -- how often the head was moved
 abbrev pub moves : List Entry → ℕ

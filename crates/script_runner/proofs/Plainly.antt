@@ -19,31 +19,31 @@ use Rattle.group_history.specs.State.{State, last_id, made}
 use Rattle.head_word.specs.Books.{record_of}
 use Rattle.head_word.specs.Laws.{moment}
 use Rattle.head_word.specs.Marks.{Known, own}
-use Rattle.answered.specs.Answered.{IsLinearized, is_move, no_change}
-use Rattle.answered.specs.Changes.{change_made, change_read}
+use Rattle.linearized.specs.Answered.{IsLinearized, is_move, no_change}
+use Rattle.linearized.specs.Changes.{change_made, change_read}
 use Rattle.pull_patch.specs.Grammar.{answer_to}
 use Rattle.push_body.specs.Bodies.{push_text}
 use Rattle.rebase.specs.Asking.{end_bytes_reply}
 use Rattle.rebase.specs.Calls.{asked_mutation, caller_of, change_of, reply_to}
 use Rattle.rebase.specs.Clients.{ClientState}
-use Rattle.rebase.specs.Queries.{asked_at, Asked as Begun}
+use Rattle.rebase.specs.Queries.{asked_at, AskedQuery as Begun}
 use Rattle.rebase.specs.Watching.{Watched, poll_at}
 use Rattle.rebase.specs.declared.watching.Polled.{Polled}
 use Rattle.rebase.specs.declared.calls.Call.{Call as Changing}
 use Rattle.rebase.specs.declared.calls.Call.TheVariants as changing
 use Rattle.rebase.specs.declared.calls.Mutate.{Mutate}
 use Rattle.rebase.specs.declared.tickets.Ticket.{Ticket}
-use Rattle.client_desk.specs.declared.calls.Call.{Call}
-use Rattle.client_desk.specs.declared.calls.Call.TheVariants as call
+use Rattle.client_desk.specs.declared.calls.DeskCall.{DeskCall}
+use Rattle.client_desk.specs.declared.calls.DeskCall.TheVariants as call
 use Rattle.client_desk.specs.declared.calls.Keep.{Keep}
 use Rattle.client_desk.specs.declared.calls.Keep.TheVariants.{At as AtNumber}
-use Rattle.client_desk.specs.declared.faults.Fault.{Fault}
-use Rattle.client_desk.specs.declared.faults.Fault.TheVariants as fault
+use Rattle.client_desk.specs.declared.faults.CallFault.{CallFault}
+use Rattle.client_desk.specs.declared.faults.CallFault.TheVariants as fault
 use Rattle.client_desk.specs.declared.outcomes.Outcome.TheVariants.{Done, Faulty, Number}
-use Rattle.client_desk.specs.Answers.{AsksAs, At, Begins, ByClient, CountsBy, CountsFree, EndsReading, IsBegun}
-use Rattle.client_desk.specs.Answers.{Lacks, Polls, read_by}
-use Rattle.client_desk.specs.Answers.{PollsChanges, Reads, Refreshes, TellsChanges, TellsMoment, TellsMomentAs}
-use Rattle.client_desk.specs.Answers.{Asks as Queries}
+use Rattle.client_desk.specs.Answers.{AsksAs, At, BeginsPull, ByClient, CountsBy, CountsFree, EndsReading, IsBegun}
+use Rattle.client_desk.specs.Answers.{AnswersLack, Polls, read_by}
+use Rattle.client_desk.specs.Answers.{PollsChanges, AnswersRead, Refreshes, TellsChanges, TellsMoment, TellsMomentAs}
+use Rattle.client_desk.specs.Answers.{AnswersQuery as Queries}
 use Rattle.client_desk.specs.Answers.{Rule, Unwatches, Watches, absent, made_room, tries}
 use Rattle.client_desk.specs.Inside.Sitting.{IsCalm}
 use Rattle.client_desk.specs.Calls.{AnswersCalm, MayAnswerAt}
@@ -62,7 +62,7 @@ use Rattle.script_parser.specs.declared.script.Query.{Query}
 use Rattle.script_parser.specs.declared.script.Query.TheVariants as query
 use Rattle.script_runner.specs.Answering.{moment_seen, record_seen}
 use Rattle.script_runner.specs.Inside.Exact.{IsExact}
-use Rattle.script_runner.specs.Commanding.{Asks, AsksQuery, Learns, MayTell, learnt_by}
+use Rattle.script_runner.specs.Commanding.{AsksDesk, AsksQuery, LearnsFirst, MayTell, learnt_by}
 use Rattle.script_runner.specs.Plain.{IsDone, Plain, changed, counted, ended, if_kept, looked, mutated}
 use Rattle.script_runner.specs.Plain.{plain_sitting, query_told, reading_at, reading_behind, reading_of}
 use Rattle.script_runner.specs.Sights.{sight_at}
@@ -124,7 +124,7 @@ module _ (means : Meanings) (seen : Option Known) (c d : ClientState) (b a : Pla
       (tells_right tell is t (record_seen seen) (record_of next.seat.mark.log) reply change right said told_is change_is
       (replies means seen n c.seat.mark next.seat.mark reply change right (exact_by next there) answer))
 
-  lacks : (is : Plain) (p : PlaceState) → p.client ≡ b.client → Lacks p t a → Is is
+  lacks : (is : Plain) (p : PlaceState) → p.client ≡ b.client → AnswersLack p t a → Is is
   lacks is p same l = inr (
     (NoMemory, refl, l.told),
     elim l.left [
@@ -137,12 +137,12 @@ module _ (means : Meanings) (seen : Option Known) (c d : ClientState) (b a : Pla
     ],
   )
 
-  room_client : (made : Call) → (made_room made b).client ≡ b.client
+  room_client : (made : DeskCall) → (made_room made b).client ≡ b.client
   room_client (call.Begin keep) = refl
   room_client (call.Watch keep scan) = refl
   room_client other = refl
 
-  by_calm : (made : Call) (is : Plain) → (AnswersCalm (λ name. true) means made b t a → Is is)
+  by_calm : (made : DeskCall) (is : Plain) → (AnswersCalm (λ name. true) means made b t a → Is is)
       → MayAnswerAt (λ name. true) means made b.asking b t a → Is is
   by_calm made is each h =
       elim (subst (λ x. MayAnswerAt (λ name. true) means made x b t a) calm.0 h) [
@@ -153,7 +153,7 @@ module _ (means : Meanings) (seen : Option Known) (c d : ClientState) (b a : Pla
   by_client : (rule : ClientState → Rule) → ByClient rule b t a → rule c b t a
   by_client rule h = subst (λ o. At o (absent b.reading) rule b t a) sat h
 
-  by_kept : {X : Type 0} (x : Option X) (none : Fault) (rule : X → Rule) (is : X → Plain)
+  by_kept : {X : Type 0} (x : Option X) (none : CallFault) (rule : X → Rule) (is : X → Plain)
       → ((y : X) → rule y b t a → Is (is y)) → At x none rule b t a → Is (if_kept x none is)
   by_kept (Some y) none rule is each h = each y h
   by_kept None none rule is each h =
@@ -162,11 +162,12 @@ module _ (means : Meanings) (seen : Option Known) (c d : ClientState) (b a : Pla
   by_reading : {X : Type 0} (tell : X → Told) (right : ClientState → State → X) → Queries tell right means b t a
       → Is (looked (tell (right c now)))
   by_reading tell right h =
-      let r = by_client (λ x. Reads tell (right x) means x) (subst (λ o. AsksAs tell right means o b t a) calm.1 h) in
+      let r = by_client (λ x. AnswersRead tell (right x) means x)
+      (subst (λ o. AsksAs tell right means o b t a) calm.1 h) in
       by_reply tries tell (looked (tell (right c now))) r.1.reply no_change (λ s. Ok (right c s)) r.0
       (ap (λ (q : PlaceState). q.client) r.2) r.1.answer r.1.told refl refl
 
-  by_query : (q : Query) (made : Call) → AsksQuery q made → MayAnswerWaiting means made b t a
+  by_query : (q : Query) (made : DeskCall) → AsksQuery q made → MayAnswerWaiting means made b t a
       → Is (looked (query_told means now (caller_of c) q))
   by_query (query.Get key) (call.Get k) asked h =
       subst (λ x. Is (looked (value_told (get_at means now x)))) asked
@@ -226,12 +227,12 @@ module _ (means : Meanings) (seen : Option Known) (c d : ClientState) (b a : Pla
       (looked (told (Number n) (asked_at c.group.identity now).body)) (Err e) no_change
       (λ s. Ok (asked_at c.group.identity s)) next (ap (λ (q : PlaceState). q.client) begun.1) answer begun.0 refl refl
 
-  by_begin : (n : ℕ) (made : Call) → Asks (command.Begin n) made → MayAnswerWaiting means made b t a
+  by_begin : (n : ℕ) (made : DeskCall) → AsksDesk (command.Begin n) made → MayAnswerWaiting means made b t a
       → Is (the (command.Begin n))
   by_begin n (call.Begin keep) asked h =
       by_calm (call.Begin keep) (the (command.Begin n))
       (λ done.
-      let r = by_client (λ x p. Begins keep means x (made_room (call.Begin keep) p)) done in
+      let r = by_client (λ x p. BeginsPull keep means x (made_room (call.Begin keep) p)) done in
       by_begun n keep r.reply r.next (made_room (call.Begin keep) b) asked r.answer r.begun) h
   by_begin n other asked h = absurd asked
 
@@ -253,7 +254,8 @@ module _ (means : Meanings) (seen : Option Known) (c d : ClientState) (b a : Pla
           (ap (change_read at.now.cookie (answer_to bytes.now)) (ended_means right))))
       go other asked answer = absurd asked
 
-  by_end : (n : ℕ) (body : Bytes) (made : Call) → Asks (command.End n body) made → MayAnswerWaiting means made b t a
+  by_end : (n : ℕ) (body : Bytes) (made : DeskCall) → AsksDesk (command.End n body) made
+      → MayAnswerWaiting means made b t a
       → Is (the (command.End n body))
   by_end n body (call.End m bytes) asked h =
       subst (λ k. Is (the (command.End k body))) asked.0
@@ -264,7 +266,8 @@ module _ (means : Meanings) (seen : Option Known) (c d : ClientState) (b a : Pla
       h)))
   by_end n body other asked h = absurd asked
 
-  by_mutation : (m : MutatorCall) (made : Call) → Asks (command.Mutate m) made → MayAnswerWaiting means made b t a
+  by_mutation : (m : MutatorCall) (made : DeskCall) → AsksDesk (command.Mutate m) made
+      → MayAnswerWaiting means made b t a
       → Is (the (command.Mutate m))
   by_mutation m (call.Mutate n) asked h =
       let w = by_client (Waits means (λ x. x ≡ changing.Mutate n)) h in
@@ -282,7 +285,7 @@ module _ (means : Meanings) (seen : Option Known) (c d : ClientState) (b a : Pla
       (ap (change_made x) (id_means right)))
   by_mutation m other asked h = absurd asked
 
-  by_refresh : (made : Call) → Asks command.Refresh made → MayAnswerWaiting means made b t a
+  by_refresh : (made : DeskCall) → AsksDesk command.Refresh made → MayAnswerWaiting means made b t a
       → Is (the command.Refresh)
   by_refresh call.Refresh asked h =
       by_calm call.Refresh (the command.Refresh)
@@ -292,7 +295,8 @@ module _ (means : Meanings) (seen : Option Known) (c d : ClientState) (b a : Pla
       (ap (λ (q : PlaceState). q.client) r.left) r.answer r.told refl refl) h
   by_refresh other asked h = absurd asked
 
-  by_moment : (made : Call) → Asks command.Moment made → MayAnswerWaiting means made b t a → Is (the command.Moment)
+  by_moment : (made : DeskCall) → AsksDesk command.Moment made → MayAnswerWaiting means made b t a
+      → Is (the command.Moment)
   by_moment call.Moment asked h =
       by_calm call.Moment (the command.Moment)
       (λ done.
@@ -310,14 +314,15 @@ module _ (means : Meanings) (seen : Option Known) (c d : ClientState) (b a : Pla
     | inr dry ↦ inr ((NoMemory, refl, dry), still next there r.looked.own)
   ]
 
-  by_slots : (made : Call) → Asks command.Slots made → MayAnswerWaiting means made b t a → Is counted
+  by_slots : (made : DeskCall) → AsksDesk command.Slots made → MayAnswerWaiting means made b t a → Is counted
   by_slots call.Slots asked h =
       by_calm call.Slots counted
       (λ done.
       let r = by_client CountsFree done in by_counts r.0 (ap (λ (q : PlaceState). q.client) r.2) r.1) h
   by_slots other asked h = absurd asked
 
-  by_watch : (n : ℕ) (scan : Scan) (made : Call) → Asks (command.Watch n scan) made → MayAnswerWaiting means made b t a
+  by_watch : (n : ℕ) (scan : Scan) (made : DeskCall) → AsksDesk (command.Watch n scan) made
+      → MayAnswerWaiting means made b t a
       → Is (the (command.Watch n scan))
   by_watch n scan (call.Watch keep k) asked h =
       by_calm (call.Watch keep k) (the (command.Watch n scan))
@@ -329,7 +334,7 @@ module _ (means : Meanings) (seen : Option Known) (c d : ClientState) (b a : Pla
       (still c (ap (λ (q : PlaceState). q.client) r.left ∙ sat) refl)) h
   by_watch n scan other asked h = absurd asked
 
-  by_poll : (n : ℕ) (made : Call) → Asks (command.Poll n) made → MayAnswerWaiting means made b t a
+  by_poll : (n : ℕ) (made : DeskCall) → AsksDesk (command.Poll n) made → MayAnswerWaiting means made b t a
       → Is (the (command.Poll n))
   by_poll n (call.Poll k) asked h =
       subst (λ j. Is (the (command.Poll j))) asked
@@ -352,7 +357,7 @@ module _ (means : Meanings) (seen : Option Known) (c d : ClientState) (b a : Pla
       (record_of r.next.seat.mark.log) r.reply no_change right r.told (λ e h. h) (λ h. h) refl
       (replies means seen tries c.seat.mark r.next.seat.mark r.reply no_change right (exact_by r.next there) r.answer))
 
-  by_changes : (n : ℕ) (made : Call) → Asks (command.Changes n) made → MayAnswerWaiting means made b t a
+  by_changes : (n : ℕ) (made : DeskCall) → AsksDesk (command.Changes n) made → MayAnswerWaiting means made b t a
       → Is (the (command.Changes n))
   by_changes n (call.PollChanges k) asked h =
       subst (λ j. Is (the (command.Changes j))) asked
@@ -363,7 +368,7 @@ module _ (means : Meanings) (seen : Option Known) (c d : ClientState) (b a : Pla
       (by_client (λ x p. At (kept_at p.watches k) fault.NoWatch (λ watch. PollsChanges means x k watch) p) done)) h)
   by_changes n other asked h = absurd asked
 
-  by_unwatch : (n : ℕ) (made : Call) → Asks (command.Unwatch n) made → MayAnswerWaiting means made b t a
+  by_unwatch : (n : ℕ) (made : DeskCall) → AsksDesk (command.Unwatch n) made → MayAnswerWaiting means made b t a
       → Is (the (command.Unwatch n))
   by_unwatch n (call.Unwatch k) asked h =
       subst (λ j. Is (the (command.Unwatch j))) asked
@@ -372,7 +377,7 @@ module _ (means : Meanings) (seen : Option Known) (c d : ClientState) (b a : Pla
       (λ watch r. only_told (told_alone Done) r.0 (still c (ap (λ (q : PlaceState). q.client) r.1 ∙ sat) refl))) h)
   by_unwatch n other asked h = absurd asked
 
-  by_learning : (sight : Option Known) → Learns sight b a → record_seen (sight_at a) ≡ record_seen seen
+  by_learning : (sight : Option Known) → LearnsFirst sight b a → record_seen (sight_at a) ≡ record_seen seen
   by_learning None h = still c (ap (λ (q : PlaceState). q.client) h ∙ sat) refl
   by_learning (Some other) h =
       let l = subst (λ o. LearnsAt o other b a) sat h in
@@ -382,7 +387,7 @@ module _ (means : Meanings) (seen : Option Known) (c d : ClientState) (b a : Pla
   abbrev IsRead : Command → Type 0
   IsRead x = reading_at a ≡ reading_behind now (moment_seen (sight_at a)) None x t.outcome
 
-  by_begin_read : (made : Call) → Asks command.BeginRead made → MayAnswerWaiting means made b t a
+  by_begin_read : (made : DeskCall) → AsksDesk command.BeginRead made → MayAnswerWaiting means made b t a
       → Is (the command.BeginRead) × IsRead command.BeginRead
   by_begin_read call.BeginRead asked h = elim (begins_reading means c b t a sat calm h) [
     | inl r ↦
@@ -410,7 +415,7 @@ module _ (means : Meanings) (seen : Option Known) (c d : ClientState) (b a : Pla
   ]
   by_begin_read other asked h = absurd asked
 
-  by_end_read : (made : Call) → Asks command.EndRead made → MayAnswerWaiting means made b t a
+  by_end_read : (made : DeskCall) → AsksDesk command.EndRead made → MayAnswerWaiting means made b t a
       → Is (the command.EndRead) × IsRead command.EndRead
   by_end_read call.EndRead asked h =
       elim (subst (λ x. MayAnswerAt (λ name. true) means call.EndRead x b t a) calm.0 h) [
@@ -427,17 +432,17 @@ module _ (means : Meanings) (seen : Option Known) (c d : ClientState) (b a : Pla
   by_end_read other asked h = absurd asked
 
   -- the client of another call sits at its place still
-  sits_still : (made : Call) → IsSitting made → MayAnswerWaiting means made b t a → reading_at a ≡ None
+  sits_still : (made : DeskCall) → IsSitting made → MayAnswerWaiting means made b t a → reading_at a ≡ None
   sits_still made is h = ap (option_map reading_of) (remains means c b a t sat calm made is h).2.1
 
-  makes_still : (x : Command) → (Asks x call.BeginRead → ⊥) → (made : Call) → Asks x made
+  makes_still : (x : Command) → (AsksDesk x call.BeginRead → ⊥) → (made : DeskCall) → AsksDesk x made
       → MayAnswerWaiting means made b t a → reading_at a ≡ None
   makes_still x none (call.Sit id) asked h = absurd (sits_none x id asked)
   makes_still x none call.Leave asked h = absurd (leaves_none x asked)
   makes_still x none call.BeginRead asked h = absurd (none asked)
   makes_still x none other asked h = sits_still other tt h
 
-  learns_still : (sight : Option Known) → Learns sight b a → reading_at a ≡ None
+  learns_still : (sight : Option Known) → LearnsFirst sight b a → reading_at a ≡ None
   learns_still sight h = ap (option_map reading_of) (caught_up c sight b a sat calm h).calm.1
 
   no_query : (q : Query) → AsksQuery q call.BeginRead → ⊥

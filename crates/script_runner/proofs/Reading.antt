@@ -15,22 +15,23 @@ use Rattle.group_history.specs.Scans.{rows_of}
 use Rattle.group_history.specs.State.{State}
 use Rattle.head_word.specs.Laws.{moment}
 use Rattle.head_word.specs.Marks.{Known}
-use Rattle.answered.specs.Answered.{is_resource_refusal}
-use Rattle.commit_graph.specs.Seats.{IsSameSeat, Seated}
-use Rattle.group_steps.specs.Missing.{IsMissedOrDry}
+use Rattle.linearized.specs.Answered.{is_resource_refusal}
+use Rattle.commit_graph.specs.Seats.{IsSameSeat, SeatState}
+use Rattle.change_tries.specs.Missing.{IsStoreOrMemory}
 use Rattle.push_body.specs.Bodies.{push_text}
 use Rattle.rebase.specs.declared.calls.Call.TheVariants as changing
 use Rattle.rebase.specs.Calls.{caller_of}
 use Rattle.rebase.specs.Clients.{ClientState}
 use Rattle.rebase.specs.Running.{UnderWay}
 use Rattle.rebase.specs.Watching.{Watched}
-use Rattle.client_desk.specs.declared.calls.Call.{Call}
-use Rattle.client_desk.specs.declared.calls.Call.TheVariants as call
-use Rattle.client_desk.specs.declared.faults.Fault.TheVariants as fault
+use Rattle.client_desk.specs.declared.calls.DeskCall.{DeskCall}
+use Rattle.client_desk.specs.declared.calls.DeskCall.TheVariants as call
+use Rattle.client_desk.specs.declared.faults.CallFault.TheVariants as fault
 use Rattle.client_desk.specs.declared.outcomes.Outcome.TheVariants.{Done, Faulty}
-use Rattle.client_desk.specs.Answers.{AsksAs, At, Begins, ByClient, CountsFree, EndsReading, Lacks, MayBeginReading}
+use Rattle.client_desk.specs.Answers.{AsksAs, At, BeginsPull, ByClient, CountsFree}
+use Rattle.client_desk.specs.Answers.{EndsReading, AnswersLack, MayBeginReading}
 use Rattle.client_desk.specs.Answers.{Polls, PollsChanges, Refreshes, Rule, TellsMomentAs, Unwatches}
-use Rattle.client_desk.specs.Answers.{Asks as Queries}
+use Rattle.client_desk.specs.Answers.{AnswersQuery as Queries}
 use Rattle.client_desk.specs.Answers.{Watches, absent, made_room, read_by}
 use Rattle.client_desk.specs.Calls.{AnswersCalm, MayAnswerAt}
 use Rattle.client_desk.specs.Kept.{kept_at}
@@ -44,13 +45,13 @@ use Rattle.script_parser.specs.declared.script.Command.TheVariants as command
 use Rattle.script_parser.specs.declared.script.MutatorCall.{MutatorCall}
 use Rattle.script_parser.specs.declared.script.Query.{Query}
 use Rattle.script_parser.specs.declared.script.Query.TheVariants as query
-use Rattle.script_runner.specs.Commanding.{Asks, AsksQuery, Learns, MayTell, learnt_by}
+use Rattle.script_runner.specs.Commanding.{AsksDesk, AsksQuery, LearnsFirst, MayTell, learnt_by}
 use Rattle.script_runner.specs.Inside.Records.{IsClientOf}
 use Rattle.script_runner.specs.Plain.{IsDone, Plain, if_kept, looked, plain_reading, query_told}
 use Rattle.script_runner.specs.Plain.{reading_at, reading_behind, reading_of}
 
 -- why a query is refused that a reading answers
-pub missed_wants : (e : Refusal) → IsMissedOrDry ⊤ e → is_resource_refusal e ≡ true
+pub missed_wants : (e : Refusal) → IsStoreOrMemory ⊤ e → is_resource_refusal e ≡ true
 missed_wants e (inl is) = ap is_resource_refusal is
 missed_wants e (inr (inl is)) = ap is_resource_refusal is
 missed_wants e (inr (inr is)) = ap is_resource_refusal is.1
@@ -59,19 +60,20 @@ missed_wants e (inr (inr is)) = ap is_resource_refusal is.1
 abbrev who : PlaceState → Option ClientState × Option UnderWay × Option ClientState
 who p = (p.client, p.asking, p.reading)
 
-room_same : (made : Call) (b : PlaceState) → who (made_room made b) ≡ who b
+room_same : (made : DeskCall) (b : PlaceState) → who (made_room made b) ≡ who b
 room_same (call.Begin keep) b = refl
 room_same (call.Watch keep scan) b = refl
 room_same other b = refl
 
-same_seat : (s : Seated) → IsSameSeat s s
+same_seat : (s : SeatState) → IsSameSeat s s
 same_seat s = record {
   table = refl;
   later = record { book = refl; seat = refl; seen = ([], append-nil s.mark.log) };
 }
 
 -- it learns nothing
-pub learns_none : (sight : Option Known) (before after : PlaceState) → before.client ≡ None → Learns sight before after
+pub learns_none : (sight : Option Known) (before after : PlaceState) → before.client ≡ None
+    → LearnsFirst sight before after
     → after ≡ before
 learns_none None before after none h = h
 learns_none (Some other) before after none h = subst (λ o. LearnsAt o other before after) none h
@@ -103,7 +105,7 @@ module _ (means : Meanings) (r : ClientState) (b a : PlaceState) (t : Told) (non
   only_told : (says : Told) → t ≡ says → who a ≡ who b → Is (looked says)
   only_told says is same = (inl (is, sym (append-nil old)), same)
 
-  lacks : (made : Call) (is : Plain) → Lacks (made_room made b) t a → Is is
+  lacks : (made : DeskCall) (is : Plain) → AnswersLack (made_room made b) t a → Is is
   lacks made is l = (
     inr ((NoMemory, refl, l.told), refl),
     elim l.left [
@@ -114,7 +116,7 @@ module _ (means : Meanings) (r : ClientState) (b a : PlaceState) (t : Told) (non
     ],
   )
 
-  by_calm : (made : Call) (is : Plain) → (AnswersCalm (λ name. true) means made b t a → Is is)
+  by_calm : (made : DeskCall) (is : Plain) → (AnswersCalm (λ name. true) means made b t a → Is is)
       → MayAnswerAt (λ name. true) means made b.asking b t a → Is is
   by_calm made is each h =
       elim (subst (λ x. MayAnswerAt (λ name. true) means made x b t a) calm h) [
@@ -129,7 +131,7 @@ module _ (means : Meanings) (r : ClientState) (b a : PlaceState) (t : Told) (non
       (ap who told.1)
 
   kept_told : {X : Type 0} (tell : X → Told) (x : X) (reply : Result X Refusal) → IfOk reply (λ y. y ≡ x)
-      → IfErr reply (IsMissedOrDry ⊤) → t ≡ tells tell reply → who a ≡ who b → Is (looked (tell x))
+      → IfErr reply (IsStoreOrMemory ⊤) → t ≡ tells tell reply → who a ≡ who b → Is (looked (tell x))
   kept_told tell x (Ok y) is refused told same = only_told (tell x) (told ∙ ap tell is) same
   kept_told tell x (Err e) is refused told same = (inr ((e, missed_wants e refused, told), refl), same)
 
@@ -139,7 +141,7 @@ module _ (means : Meanings) (r : ClientState) (b a : PlaceState) (t : Told) (non
       let k = subst (λ o. AsksAs tell right means o b t a) opened h in
       kept_told tell (right r (read_by r)) k.0.reply k.0.answer k.0.refused k.0.told (ap who k.1)
 
-  by_query : (q : Query) (made : Call) → AsksQuery q made → MayAnswerWaiting means made b t a
+  by_query : (q : Query) (made : DeskCall) → AsksQuery q made → MayAnswerWaiting means made b t a
       → Is (looked (query_told means (read_by r) (caller_of r) q))
   by_query (query.Get key) (call.Get k) asked h =
       subst (λ x. Is (looked (value_told (get_at means (read_by r) x)))) asked
@@ -185,31 +187,34 @@ module _ (means : Meanings) (r : ClientState) (b a : PlaceState) (t : Told) (non
       (by_reading rows_told (λ x s. rows_of k.now s.pulled)) h)
   by_query (query.PulledScan scan) other asked h = absurd asked
 
-  by_begin : (n : ℕ) (made : Call) → Asks (command.Begin n) made → MayAnswerWaiting means made b t a → Is busy
+  by_begin : (n : ℕ) (made : DeskCall) → AsksDesk (command.Begin n) made → MayAnswerWaiting means made b t a → Is busy
   by_begin n (call.Begin keep) asked h =
-      by_calm (call.Begin keep) busy (by_client (λ x p. Begins keep means x (made_room (call.Begin keep) p))) h
+      by_calm (call.Begin keep) busy (by_client (λ x p. BeginsPull keep means x (made_room (call.Begin keep) p))) h
   by_begin n other asked h = absurd asked
 
-  by_end : (n : ℕ) (body : Bytes) (made : Call) → Asks (command.End n body) made → MayAnswerWaiting means made b t a
+  by_end : (n : ℕ) (body : Bytes) (made : DeskCall) → AsksDesk (command.End n body) made
+      → MayAnswerWaiting means made b t a
       → Is busy
   by_end n body (call.End m bytes) asked h =
       by_client (λ x p. At (kept_at p.tickets m) fault.NoTicket (λ kept. Waits means (IsEndOf kept bytes.now) x) p) h
   by_end n body other asked h = absurd asked
 
-  by_mutation : (m : MutatorCall) (made : Call) → Asks (command.Mutate m) made → MayAnswerWaiting means made b t a
+  by_mutation : (m : MutatorCall) (made : DeskCall) → AsksDesk (command.Mutate m) made
+      → MayAnswerWaiting means made b t a
       → Is busy
   by_mutation m (call.Mutate n) asked h = by_client (Waits means (λ x. x ≡ changing.Mutate n)) h
   by_mutation m other asked h = absurd asked
 
-  by_refresh : (made : Call) → Asks command.Refresh made → MayAnswerWaiting means made b t a → Is busy
+  by_refresh : (made : DeskCall) → AsksDesk command.Refresh made → MayAnswerWaiting means made b t a → Is busy
   by_refresh call.Refresh asked h = by_calm call.Refresh busy (by_client (Refreshes means)) h
   by_refresh other asked h = absurd asked
 
-  by_slots : (made : Call) → Asks command.Slots made → MayAnswerWaiting means made b t a → Is busy
+  by_slots : (made : DeskCall) → AsksDesk command.Slots made → MayAnswerWaiting means made b t a → Is busy
   by_slots call.Slots asked h = by_calm call.Slots busy (by_client CountsFree) h
   by_slots other asked h = absurd asked
 
-  by_moment : (made : Call) → Asks command.Moment made → MayAnswerWaiting means made b t a → Is (the command.Moment)
+  by_moment : (made : DeskCall) → AsksDesk command.Moment made → MayAnswerWaiting means made b t a
+      → Is (the command.Moment)
   by_moment call.Moment asked h =
       by_calm call.Moment (the command.Moment)
       (λ done.
@@ -217,20 +222,22 @@ module _ (means : Meanings) (r : ClientState) (b a : PlaceState) (t : Told) (non
       only_told (id_told (moment r.seat.mark.log)) m.0 (ap who m.1)) h
   by_moment other asked h = absurd asked
 
-  by_watch : (n : ℕ) (scan : Scan) (made : Call) → Asks (command.Watch n scan) made → MayAnswerWaiting means made b t a
+  by_watch : (n : ℕ) (scan : Scan) (made : DeskCall) → AsksDesk (command.Watch n scan) made
+      → MayAnswerWaiting means made b t a
       → Is busy
   by_watch n scan (call.Watch keep k) asked h =
       by_calm (call.Watch keep k) busy
       (by_client (λ x p. Watches keep k.now x (made_room (call.Watch keep k) p))) h
   by_watch n scan other asked h = absurd asked
 
-  by_poll : (n : ℕ) (made : Call) → Asks (command.Poll n) made → MayAnswerWaiting means made b t a → Is busy
+  by_poll : (n : ℕ) (made : DeskCall) → AsksDesk (command.Poll n) made → MayAnswerWaiting means made b t a → Is busy
   by_poll n (call.Poll k) asked h =
       by_calm (call.Poll k) busy
       (by_client (λ x p. At (kept_at p.watches k) fault.NoWatch (λ watch. Polls means x k watch) p)) h
   by_poll n other asked h = absurd asked
 
-  by_changes : (n : ℕ) (made : Call) → Asks (command.Changes n) made → MayAnswerWaiting means made b t a → Is busy
+  by_changes : (n : ℕ) (made : DeskCall) → AsksDesk (command.Changes n) made → MayAnswerWaiting means made b t a
+      → Is busy
   by_changes n (call.PollChanges k) asked h =
       by_calm (call.PollChanges k) busy
       (by_client (λ x p. At (kept_at p.watches k) fault.NoWatch (λ watch. PollsChanges means x k watch) p)) h
@@ -241,7 +248,7 @@ module _ (means : Meanings) (r : ClientState) (b a : PlaceState) (t : Told) (non
   by_unkept n (Some watch) h = only_told (told_alone Done) h.0 (ap who h.1)
   by_unkept n None h = only_told (told_alone (Faulty fault.NoWatch)) h.0 (ap who h.1)
 
-  by_unwatch : (n : ℕ) (made : Call) → Asks (command.Unwatch n) made → MayAnswerWaiting means made b t a
+  by_unwatch : (n : ℕ) (made : DeskCall) → AsksDesk (command.Unwatch n) made → MayAnswerWaiting means made b t a
       → Is (the (command.Unwatch n))
   by_unwatch n (call.Unwatch k) asked h =
       subst (λ j. Is (the (command.Unwatch j))) asked
@@ -249,7 +256,8 @@ module _ (means : Meanings) (r : ClientState) (b a : PlaceState) (t : Told) (non
   by_unwatch n other asked h = absurd asked
 
   -- the place has its reading still
-  still : (x : Command) → ((s : State) (n : ℕ) → Some (reading_of r) ≡ reading_behind s n (Some (reading_of r)) x t.outcome)
+  still : (x : Command)
+      → ((s : State) (n : ℕ) → Some (reading_of r) ≡ reading_behind s n (Some (reading_of r)) x t.outcome)
       → Is (the x) → HasRead means r b a t old x
   still x reads is = record {
     done = is.0;
@@ -263,7 +271,7 @@ module _ (means : Meanings) (r : ClientState) (b a : PlaceState) (t : Told) (non
     reads = λ s n. ap (λ w. option_map reading_of w.2) is.1 ∙ ap (option_map reading_of) opened ∙ reads s n;
   }
 
-  by_begin_read : (made : Call) → Asks command.BeginRead made → MayAnswerWaiting means made b t a
+  by_begin_read : (made : DeskCall) → AsksDesk command.BeginRead made → MayAnswerWaiting means made b t a
       → HasRead means r b a t old command.BeginRead
   by_begin_read call.BeginRead asked h =
       elim (subst (λ x. MayAnswerAt (λ name. true) means call.BeginRead x b t a) calm h) [
@@ -292,7 +300,7 @@ module _ (means : Meanings) (r : ClientState) (b a : PlaceState) (t : Told) (non
         ∙ sym (ap (λ (w : Told). reading_behind s n (Some (reading_of r)) command.EndRead w.outcome) e.told);
   }
 
-  by_end_read : (made : Call) → Asks command.EndRead made → MayAnswerWaiting means made b t a
+  by_end_read : (made : DeskCall) → AsksDesk command.EndRead made → MayAnswerWaiting means made b t a
       → HasRead means r b a t old command.EndRead
   by_end_read call.EndRead asked h =
       elim (subst (λ x. MayAnswerAt (λ name. true) means call.EndRead x b t a) calm h) [

@@ -9,8 +9,8 @@ use Rattle.group_history.specs.Record.{after}
 use Rattle.group_history.specs.State.{State}
 use Rattle.head_word.specs.Books.{record_of, with_change}
 use Rattle.head_word.specs.Marks.{Known}
-use Rattle.answered.specs.Answered.{IsLinearized, IsRefused, is_mute, is_resource_refusal}
-use Rattle.group_steps.specs.Missing.{map_ok}
+use Rattle.linearized.specs.Answered.{IsLinearized, IsRefused, is_mute, is_resource_refusal}
+use Rattle.change_tries.specs.Missing.{map_ok}
 use Rattle.rebase.specs.Calls.{ended_in, id_in}
 use Rattle.rebase.specs.Replies as replied
 use Rattle.client_desk.specs.declared.outcomes.Outcome.TheVariants.{Refused}
@@ -67,7 +67,8 @@ says_right saying is t old new reply change right said refused says_is change_is
 says_right saying is t old new reply change right said refused says_is change_is (inr want) =
     inr ((want.0, want.1, refused want.0 (subst (λ r. saying r t) want.2 said)), want.3)
 
-pub tells_right : {X : Type 0} (tell : X → Told) (is : Plain) (t : Told) (old new : List Change) (reply : Result X Refusal)
+pub tells_right : {X : Type 0} (tell : X → Told) (is : Plain) (t : Told) (old new : List Change)
+    (reply : Result X Refusal)
     (change : Result X Refusal → Option Change) (right : State → Result X Refusal) → t ≡ tells tell reply
     → is.says (tells tell (right (after old))) → change (right (after old)) ≡ is.change
     → IsRight old new reply change right → IsDone is t old new

@@ -11,8 +11,8 @@ use Rattle.head_word.specs.Books.{opening, opening_ref}
 use Rattle.head_word.specs.Marks.{Known, own}
 use Rattle.commit_graph.specs.Seats.{IsSameSeat}
 use Rattle.rebase.specs.Clients.{ClientState, Grouped}
-use Rattle.client_desk.specs.declared.calls.Call.{Call}
-use Rattle.client_desk.specs.declared.calls.Call.TheVariants as call
+use Rattle.client_desk.specs.declared.calls.DeskCall.{DeskCall}
+use Rattle.client_desk.specs.declared.calls.DeskCall.TheVariants as call
 use Rattle.client_desk.specs.Learning.{LearnsAt}
 use Rattle.client_desk.specs.Places.{PlaceState, client_at, with_client}
 use Rattle.client_desk.specs.Answers.{At, MayBeginReading, absent}
@@ -26,9 +26,9 @@ use Rattle.script_parser.specs.declared.script.Command.{Command}
 use Rattle.script_parser.specs.declared.script.Command.TheVariants as command
 use Rattle.script_parser.specs.declared.script.Query.{Query}
 use Rattle.script_parser.specs.declared.script.Query.TheVariants as query
-use Rattle.script_runner.specs.Commanding.{Asks, AsksQuery, Learns, MayTell, Player}
+use Rattle.script_runner.specs.Commanding.{AsksDesk, AsksQuery, LearnsFirst, MayTell, Player}
 use Rattle.script_runner.specs.Phases.{AreTold, AreWritten, IsPhase, all_sights}
-use Rattle.script_runner.specs.Runs.{IsNew}
+use Rattle.script_runner.specs.Runs.{IsNewPlayer}
 use Rattle.script_runner.specs.Inside.Records.{AreSeated, IsClientOf, IsSeated}
 use Rattle.script_runner.proofs.Reading.{has_read}
 use Rattle.client_desk.specs.Kept.{kept_at}
@@ -59,7 +59,7 @@ leaves_no_query (query.Push n) h = h
 leaves_no_query (query.PulledGet key) h = h
 leaves_no_query (query.PulledScan scan) h = h
 
-pub sits_none : (c : Command) (id : _) → Asks c (call.Sit id) → ⊥
+pub sits_none : (c : Command) (id : _) → AsksDesk c (call.Sit id) → ⊥
 sits_none (command.Query q) id h = sits_no_query q id h
 sits_none (command.Begin n) id h = h
 sits_none (command.End n body) id h = h
@@ -75,7 +75,7 @@ sits_none (command.Poll n) id h = h
 sits_none (command.Changes n) id h = h
 sits_none (command.Unwatch n) id h = h
 
-pub leaves_none : (c : Command) → Asks c call.Leave → ⊥
+pub leaves_none : (c : Command) → AsksDesk c call.Leave → ⊥
 leaves_none (command.Query q) h = leaves_no_query q h
 leaves_none (command.Begin n) h = h
 leaves_none (command.End n body) h = h
@@ -141,7 +141,7 @@ by_begun means c b t a calm (inr l) = record {
   seat = l.stays.0.looked.seat;
 }
 
-by_sitting : (means : Meanings) (c : ClientState) (made : Call) (b : PlaceState) (t : Told) (a : PlaceState)
+by_sitting : (means : Meanings) (c : ClientState) (made : DeskCall) (b : PlaceState) (t : Told) (a : PlaceState)
     → b.client ≡ Some c → IsCalm b → IsSitting made → MayAnswerWaiting means made b t a → GoesOn c a
 by_sitting means c made b t a sits calm is h =
     let r = remains means c b a t sits calm made is h in record {
@@ -151,8 +151,8 @@ by_sitting means c made b t a sits calm is h =
     }
 
 -- so does each call that a command is
-pub makes_on : (means : Meanings) (x : Command) (c : ClientState) (made : Call) (b : PlaceState) (t : Told)
-    (a : PlaceState) → b.client ≡ Some c → IsCalm b → Asks x made → MayAnswerWaiting means made b t a → GoesOn c a
+pub makes_on : (means : Meanings) (x : Command) (c : ClientState) (made : DeskCall) (b : PlaceState) (t : Told)
+    (a : PlaceState) → b.client ≡ Some c → IsCalm b → AsksDesk x made → MayAnswerWaiting means made b t a → GoesOn c a
 makes_on means x c (call.Sit id) b t a sits calm asked h = absurd (sits_none x id asked)
 makes_on means x c call.Leave b t a sits calm asked h = absurd (leaves_none x asked)
 makes_on means x c call.BeginRead b t a sits calm asked h =
@@ -174,7 +174,7 @@ pub record HasCaughtUp (c : ClientState) (seen : Option Known) (after : PlaceSta
   pub sees : (known : Known) → seen ≡ Some known → IsPrefix known.log client.seat.mark.log
 
 pub caught_up : (c : ClientState) (seen : Option Known) (before after : PlaceState) → before.client ≡ Some c
-    → IsCalm before → Learns seen before after → HasCaughtUp c seen after
+    → IsCalm before → LearnsFirst seen before after → HasCaughtUp c seen after
 caught_up c None before after sits calm h = record {
   client = c;
   sits = ap (λ (p : PlaceState). p.client) h ∙ sits;
@@ -248,7 +248,7 @@ module _ (count commit number : ℕ) where
       told means sights h.1 ls h.2 end h.6 (tells means sights l.1 before.place h.3.t h.1.place h.3.may was)
 
   -- and a new client
-  pub begun : (means : Meanings) (group : Grouped) (p : Player) → IsNew means group count commit number p
+  pub begun : (means : Meanings) (group : Grouped) (p : Player) → IsNewPlayer means group count commit number p
       → IsSeated count commit number p.place
   begun means group p new =
       let c = new.sat.client in let same = new.sat.looked.seat.later in record {

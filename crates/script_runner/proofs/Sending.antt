@@ -10,7 +10,7 @@ use Rattle.client_desk.proofs.Crossing.{place_send}
 use Rattle.client_desk.proofs.mutators.Whole.TheSendSync as whole
 use Rattle.client_desk.specs.contracts.mutators.Whole as Whole
 use Rattle.script_runner.specs.contracts.client.ScriptClient as ScriptClient
-use Rattle.script_runner.specs.contracts.phase.Turn as Turn
+use Rattle.script_runner.specs.contracts.phase.ClientTurn as ClientTurn
 
 module _ (M : RattleType) (mutators : Mutators.Ghosts M.Denot) (means : Means.Ghosts M.Denot) (m : IsSend M)
     (my : IsSync M) where
@@ -25,7 +25,7 @@ module _ (M : RattleType) (mutators : Mutators.Ghosts M.Denot) (means : Means.Gh
         ),
       )
 
-  pub turn_send : IsSend (Turn.the_field M mutators means).row
+  pub turn_send : IsSend (ClientTurn.the_field M mutators means).row
   turn_send =
-      struct_send (Declared.shape (Turn.the_type M mutators means))
+      struct_send (Declared.shape (ClientTurn.the_type M mutators means))
       (client_send, (search (crosses, sendable) depth 60 fits 20000, tt))

@@ -14,7 +14,7 @@ use Rattle.head_word.specs.declared.entry.Entry.{Entry}
 use Rattle.head_word.specs.Books.{opening, opening_ref, record_of, with_change}
 use Rattle.head_word.specs.Marks.{Known, known, own}
 use Rattle.head_word.specs.Tallies.{mine}
-use Rattle.answered.specs.Answered.{is_move, own_moves}
+use Rattle.linearized.specs.Answered.{is_move, own_moves}
 use Rattle.push_body.specs.declared.identities.Identity.{Identity}
 use Rattle.rebase.specs.Clients.{ClientState}
 use Rattle.client_desk.specs.Learning.{sight_of}
@@ -22,11 +22,11 @@ use Rattle.client_desk.specs.Inside.Sitting.{IsCalm}
 use Rattle.client_desk.specs.Places.{PlaceState, client_at}
 use Rattle.client_desk.specs.Told.{Told}
 use Rattle.script_parser.specs.declared.script.Command.{Command}
-use Rattle.script_runner.specs.declared.phase.Turn.{Turn}
+use Rattle.script_runner.specs.declared.phase.ClientTurn.{ClientTurn}
 use Rattle.script_runner.specs.Answering.{record_seen}
-use Rattle.script_runner.specs.Commanding.{Learns, MayTell, Player}
+use Rattle.script_runner.specs.Commanding.{LearnsFirst, MayTell, Player}
 use Rattle.script_runner.specs.Records.{IsRecordOf}
-use Rattle.script_runner.specs.Runs.{AreNew, IsNew, seats_for}
+use Rattle.script_runner.specs.Runs.{AreNewPlayers, IsNewPlayer, seats_for}
 use Rattle.script_runner.specs.Settling.{AreSteady, IsWhole, StaySteady, moves_seen, own_at, own_count}
 use Rattle.script_runner.specs.Sights.{seen_behind, sight_at}
 use Rattle.script_runner.specs.Inside.Calls.{IsCalledAt}
@@ -56,14 +56,14 @@ no_moves (p ∷ ps) each =
 
 -- a new client has made no move
 none_own : (means : Meanings) (group : _) (count commit number : ℕ) (p : Player)
-    → IsNew means group count commit number p → own_at p ≡ 0
+    → IsNewPlayer means group count commit number p → own_at p ≡ 0
 none_own means group count commit number p new =
     let none : own new.sat.client.seat.mark ≡ [] =
     new.sat.looked.own ∙ ap own new.mark ∙ none_opened number count (opening_ref commit) in
     ap (λ (q : PlaceState). own_count (client_at q)) new.sat.left ∙ ap (λ es. length (filter is_move es)) none
 
 pub steady_new : (means : Meanings) (identity : Identity) (lines : List (Bytes × Bytes)) (players : List Player)
-    → AreNew means identity lines players → AreSteady players None
+    → AreNewPlayers means identity lines players → AreSteady players None
 steady_new means identity lines players new =
     let n : ℕ = length players in
     record {
@@ -160,7 +160,7 @@ set_elsewhere before place i next p other at =
 
 module _ (means : Meanings) (sights : List (Option Known)) (seen : Option Known) (place : ℕ) (c : Command)
     (before : List Player) (client next : Player) (mid : PlaceState) (t : Told)
-    (at : slice_get before place ≡ Some client) (learnt : Learns seen client.place mid)
+    (at : slice_get before place ≡ Some client) (learnt : LearnsFirst seen client.place mid)
     (may : MayTell means sights c mid t next.place) (was : AreSteady before seen) where
   abbrev ended : List Player
   ended = slice_set before place next
@@ -172,7 +172,8 @@ module _ (means : Meanings) (sights : List (Option Known)) (seen : Option Known)
   here = get_or_from_slice_get before place client client at
 
   pub seated : IsSeated (length before) was.commit place client.place
-  seated = subst (λ (p : Player). IsSeated (length before) was.commit place p.place) here (was.seated place client below)
+  seated = subst (λ (p : Player). IsSeated (length before) was.commit place p.place) here
+      (was.seated place client below)
 
   -- the client of the line sits at its place
   module _ (sits : client.place.client ≡ Some seated.client) (calm : IsCalm client.place) where
@@ -348,7 +349,8 @@ settled means players (Some known) was found =
     omega (moves_grow at.0.seat.mark.log book at.2, first, all, total, arith)
 
 -- so it is where the clients have gathered
-pub settled_all : {M : Type 0} (means : Meanings) (turns slice : List (Turn M)) (seen : Option Known) → slice ≡ turns
+pub settled_all : {M : Type 0} (means : Meanings) (turns slice : List (ClientTurn M)) (seen : Option Known)
+    → slice ≡ turns
     → (was : AreSteady (players_of turns) seen)
     → ((count commit : ℕ) → AreSeated count commit (players_of slice) → count ≡ length slice → 0 < length slice
     → (book : List Entry) × IsRecordOf means (players_of slice) book)

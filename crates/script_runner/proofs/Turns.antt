@@ -14,7 +14,7 @@ use Rattle.group_history.specs.Map.{Bytes}
 use Rattle.group_history.specs.Meaning.{Meanings}
 use Rattle.head_word.specs.Marks.{Known}
 use Rattle.rebase.specs.Clients.{Grouped}
-use Rattle.script_runner.specs.declared.phase.Turn.{Turn}
+use Rattle.script_runner.specs.declared.phase.ClientTurn.{ClientTurn}
 use Rattle.script_parser.specs.declared.script.Command.{Command}
 use Rattle.script_parser.specs.declared.script.Line.{Line}
 use Rattle.script_parser.specs.declared.script.Phase.{Phase}
@@ -50,14 +50,14 @@ mapped-more f g xs new x ys i y k q so is same =
 
 -- TEXTS
 
-text_with : {M : Type 0} (ts : List (Turn M)) (t : Turn M)
+text_with : {M : Type 0} (ts : List (ClientTurn M)) (t : ClientTurn M)
     → concat (texts_of (ts ++ t ∷ [])) ≡ concat (texts_of ts) ++ printed_text t.printed
 text_with ts t =
     ap concat (map-append (λ u. printed_text u.printed) ts (t ∷ [])) ∙ concat-append (texts_of ts)
     (printed_text t.printed ∷ []) ∙ ap (λ w. concat (texts_of ts) ++ w) (append-nil (printed_text t.printed))
 
 -- a turn of the loop over the clients
-pub text-more : {M : Type 0} (all : List (Turn M)) (i : ℕ) (t : Turn M) (old new : Bytes) → i < length all
+pub text-more : {M : Type 0} (all : List (ClientTurn M)) (i : ℕ) (t : ClientTurn M) (old new : Bytes) → i < length all
     → t ≡ get_or all i t → old ≡ concat (texts_of (take i all)) → new ≡ old ++ printed_text t.printed
     → new ≡ concat (texts_of (take (i + 1) all))
 text-more all i t old new k q o n =
@@ -81,7 +81,8 @@ appends-kept (Some x) (Some y) (Some z) xs h k = k ∙ h
 
 module _ (means : Meanings) where
   -- one line more
-  told_more : (sights : List (Option Known)) (c mid end : Player) (ls : Lines) (text : Bytes) (l : ℕ × Command) (told : Bytes)
+  told_more : (sights : List (Option Known)) (c mid end : Player) (ls : Lines) (text : Bytes) (l : ℕ × Command)
+      (told : Bytes)
       → AreTold means sights c ls text mid
       → MayPrint means sights mid l.1 told end → end.name ≡ mid.name
       → AreTold means sights c (ls ++ l ∷ []) (text ++ line_text l.0 mid.name told) end
@@ -107,7 +108,8 @@ module _ (means : Meanings) where
   )
 
   -- a turn of the loop over the lines
-  pub line-more : (sights : List (Option Known)) (c mid end : Player) (all : List Line) (i : ℕ) (l : Line) (old new : Bytes)
+  pub line-more : (sights : List (Option Known)) (c mid end : Player) (all : List Line) (i : ℕ) (l : Line)
+      (old new : Bytes)
       → i < length all → l ≡ get_or all i l
       → AreTold means sights c (map line_said (take i all)) old mid → IsTold means sights mid (line_said l) old new end
       → AreTold means sights c (map line_said (take (i + 1) all)) new end
@@ -165,7 +167,7 @@ told_of P (Ok text) is told = told
 told_of P (Err e) is told = absurd (false≢true is)
 
 -- what is lent to a client in a phase is of its group
-pub lent : {M : Type 0} (turns : List (Turn M)) (sights : List (Option Known)) (i : ℕ) (t : Turn M)
+pub lent : {M : Type 0} (turns : List (ClientTurn M)) (sights : List (Option Known)) (i : ℕ) (t : ClientTurn M)
     → ((group : Grouped) → AreOf group turns → CanLearnAll group sights) → AreOfOneGroup turns
     → i < length turns → t ≡ slice_index_or turns i t → CanLearnAll t.client.place.group sights
 lent turns sights i t there one below at =
@@ -180,7 +182,7 @@ seen_one sight group home is same seen there =
 
 module _ {M : Type 0} (means : Meanings) where
   -- a client's part of a phase, as it stands in the lists
-  pub part : (sights : List (Option Known)) (old new : List (Turn M)) (p : Phase) (i : ℕ) (d : Turn M)
+  pub part : (sights : List (Option Known)) (old new : List (ClientTurn M)) (p : Phase) (i : ℕ) (d : ClientTurn M)
       → i < length old → i < length new → i < p.clients
       → IsTurn means sights (lines_at p.parts.items i) (slice_index_or old i d).client
       (slice_index_or new i d) → IsPrinted (slice_index_or new i d)
@@ -215,9 +217,9 @@ module _ {M : Type 0} (means : Meanings) where
       (sym after) told)))
 
   -- a phase, by each client's part of it
-  pub phase : (sights : List (Option Known)) (old new : List (Turn M)) (p : Phase)
+  pub phase : (sights : List (Option Known)) (old new : List (ClientTurn M)) (p : Phase)
       → sights ≡ all_sights (players_of old) → length new ≡ length old → length old ≡ p.clients
-      → ((i : ℕ) (d : Turn M) → i < length old
+      → ((i : ℕ) (d : ClientTurn M) → i < length old
       → IsTurn means sights (lines_at p.parts.items i) (slice_index_or old i d).client
       (slice_index_or new i d)) → All IsPrinted new
       → IsPhase means (phase_said p) (players_of old) (texts_of new) (players_of new)
@@ -241,8 +243,8 @@ module _ {M : Type 0} (means : Meanings) where
       }
 
   -- and they are of one group still
-  pub still_one : (sights : List (Option Known)) (old new : List (Turn M)) (p : Phase) → length new ≡ length old
-      → ((i : ℕ) (d : Turn M) → i < length old
+  pub still_one : (sights : List (Option Known)) (old new : List (ClientTurn M)) (p : Phase) → length new ≡ length old
+      → ((i : ℕ) (d : ClientTurn M) → i < length old
       → IsTurn means sights (lines_at p.parts.items i) (slice_index_or old i d).client
       (slice_index_or new i d))
       → StayInGroup old new

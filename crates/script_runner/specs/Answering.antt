@@ -9,7 +9,7 @@ use Rattle.head_word.specs.Marks.{Known}
 use Rattle.client_desk.specs.Places.{PlaceState}
 use Rattle.script_parser.specs.declared.script.Command.{Command}
 use Rattle.script_runner.specs.declared.clients.Clients.{Clients}
-use Rattle.script_runner.specs.Commanding.{Learns, MayPrint, Player}
+use Rattle.script_runner.specs.Commanding.{LearnsFirst, MayPrint, Player}
 use Rattle.script_runner.specs.Printing.{line_text}
 use Rattle.script_runner.specs.Sights.{seen_behind, sight_at}
 use Rattle.script_runner.specs.Inside.Players.{players_of}
@@ -34,7 +34,7 @@ pub record IsToldAt (means : Meanings) (sights : List (Option Known)) (seen : Op
   pub client : Player
   pub at : slice_get before place ≡ Some client
   pub mid : PlaceState
-  pub learnt : Learns seen client.place mid
+  pub learnt : LearnsFirst seen client.place mid
   pub told : Bytes
   pub next : Player
   pub may : MayPrint means sights (record client { place = mid }) l.1 told next

@@ -8,10 +8,10 @@ use Rattle.script_parser.specs.declared.script.Command.{Command}
 use Rattle.script_parser.specs.declared.script.Command.TheVariants as command
 use Rattle.script_parser.specs.declared.script.Query.{Query}
 use Rattle.script_parser.specs.declared.script.Query.TheVariants as query
-use Rattle.client_desk.specs.declared.calls.Call.{Call}
-use Rattle.client_desk.specs.declared.calls.Call.TheVariants as call
+use Rattle.client_desk.specs.declared.calls.DeskCall.{DeskCall}
+use Rattle.client_desk.specs.declared.calls.DeskCall.TheVariants as call
 use Rattle.client_desk.specs.declared.calls.Keep.TheVariants.{At}
-use Rattle.client_desk.specs.declared.faults.Fault.TheVariants.{Reads}
+use Rattle.client_desk.specs.declared.faults.CallFault.TheVariants.{Reads}
 use Rattle.client_desk.specs.declared.outcomes.Outcome.{Outcome}
 use Rattle.client_desk.specs.declared.outcomes.Outcome.TheVariants.{Done, Faulty}
 use Rattle.client_desk.specs.Kept.{kept_at}
@@ -29,7 +29,7 @@ pub record Player : Type 0 where
   pub place : PlaceState
 
 -- the call that a query is
-abbrev pub AsksQuery : Query → Call → Type 0
+abbrev pub AsksQuery : Query → DeskCall → Type 0
 AsksQuery (query.Get key) (call.Get k) = k.now ≡ key
 AsksQuery (query.Has key) (call.Has k) = k.now ≡ key
 AsksQuery (query.Scan scan) (call.Scan s) = s.now ≡ scan
@@ -49,26 +49,26 @@ pub record AsksMutation (m : MutatorCall) (n : Mutate) : Type 0 where
   pub time : n.time ≡ m.time
 
 -- the call that a command is
-abbrev pub Asks : Command → Call → Type 0
-Asks (command.Query q) made = AsksQuery q made
-Asks (command.Begin n) (call.Begin keep) = keep ≡ At n
-Asks (command.End n body) (call.End m bytes) = (m ≡ n) × (bytes.now ≡ body)
-Asks (command.Mutate m) (call.Mutate n) = AsksMutation m n
-Asks command.Refresh call.Refresh = ⊤
-Asks command.Moment call.Moment = ⊤
-Asks command.Slots call.Slots = ⊤
-Asks command.BeginRead call.BeginRead = ⊤
-Asks command.EndRead call.EndRead = ⊤
-Asks (command.Watch n scan) (call.Watch keep s) = (keep ≡ At n) × (s.now ≡ scan)
-Asks (command.Poll n) (call.Poll m) = m ≡ n
-Asks (command.Changes n) (call.PollChanges m) = m ≡ n
-Asks (command.Unwatch n) (call.Unwatch m) = m ≡ n
-Asks c other = ⊥
+abbrev pub AsksDesk : Command → DeskCall → Type 0
+AsksDesk (command.Query q) made = AsksQuery q made
+AsksDesk (command.Begin n) (call.Begin keep) = keep ≡ At n
+AsksDesk (command.End n body) (call.End m bytes) = (m ≡ n) × (bytes.now ≡ body)
+AsksDesk (command.Mutate m) (call.Mutate n) = AsksMutation m n
+AsksDesk command.Refresh call.Refresh = ⊤
+AsksDesk command.Moment call.Moment = ⊤
+AsksDesk command.Slots call.Slots = ⊤
+AsksDesk command.BeginRead call.BeginRead = ⊤
+AsksDesk command.EndRead call.EndRead = ⊤
+AsksDesk (command.Watch n scan) (call.Watch keep s) = (keep ≡ At n) × (s.now ≡ scan)
+AsksDesk (command.Poll n) (call.Poll m) = m ≡ n
+AsksDesk (command.Changes n) (call.PollChanges m) = m ≡ n
+AsksDesk (command.Unwatch n) (call.Unwatch m) = m ≡ n
+AsksDesk c other = ⊥
 
 -- the client learns this, where anything was seen
-abbrev pub Learns : Option Known → PlaceState → PlaceState → Type 0
-Learns (Some seen) before after = LearnsAt before.client seen before after
-Learns None before after = after ≡ before
+abbrev pub LearnsFirst : Option Known → PlaceState → PlaceState → Type 0
+LearnsFirst (Some seen) before after = LearnsAt before.client seen before after
+LearnsFirst None before after = after ≡ before
 
 -- what it comes to that a client is to learn: one that has a reading open learns nothing, which is told
 abbrev pub learnt_by : Option ClientState → Outcome
@@ -78,15 +78,15 @@ learnt_by (Some reader) = Faulty Reads
 -- it learns what the one at a place had seen
 pub record MayLearn (sights : List (Option Known)) (place : ℕ) (before : PlaceState) (t : Told)
     (after : PlaceState) : Type 0 where
-  pub learnt : Learns (kept_at sights place) before after
+  pub learnt : LearnsFirst (kept_at sights place) before after
   pub told : t ≡ told_alone (learnt_by before.reading)
 
 -- In a group whose mutators mean this.
 module _ (means : Meanings) where
   -- the call is made that the command is; a change waits for others
   pub record Makes (c : Command) (before : PlaceState) (t : Told) (after : PlaceState) : Type 0 where
-    pub made : Call
-    pub asked : Asks c made
+    pub made : DeskCall
+    pub asked : AsksDesk c made
     pub may : MayAnswerWaiting means made before t after
 
   -- What a command may come to and tell, and how it leaves its client's place. `sights` are what each client had seen

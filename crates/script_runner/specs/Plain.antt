@@ -2,8 +2,8 @@
 --
 -- The state is the group's: the one after all changes so far. The last id, the tickets, the watches and an open reading
 -- are the client's own; the reading's state is the one that the line found which began it. The number of the moment is
--- that of what the line has seen, and how many slots are free nothing says. Nothing else is asked: so but for these two a
--- line is answered by a function of what the lines before have done.
+-- that of what the line has seen, and how many slots are free nothing says. Nothing else is asked: so but for these
+-- two a line is answered by a function of what the lines before have done.
 use Rattle.std.specs.Prelude.{ℕ, ◌≡◌, ◌⊎◌, ◌+◌, true, List, [], ◌++◌, drop, Option, Some, None, Ok}
 use Rattle.std.specs.Prelude.{option_map}
 use Rattle.std.specs.FinMap as finite
@@ -20,8 +20,8 @@ use Rattle.group_history.specs.State.{State, last_id, made}
 use Rattle.head_word.specs.Books.{with_change}
 use Rattle.head_word.specs.Laws.{moment}
 use Rattle.head_word.specs.Marks.{Known}
-use Rattle.answered.specs.Answered.{is_resource_refusal}
-use Rattle.answered.specs.Changes.{change_made, change_read}
+use Rattle.linearized.specs.Answered.{is_resource_refusal}
+use Rattle.linearized.specs.Changes.{change_made, change_read}
 use Rattle.pull_patch.specs.Grammar.{answer_to}
 use Rattle.push_body.specs.Bodies.{push_text}
 use Rattle.rebase.specs.declared.tickets.Ticket.{Ticket}
@@ -33,8 +33,8 @@ use Rattle.rebase.specs.Queries.{asked_at}
 use Rattle.rebase.specs.Watching.{Watched, poll_at}
 use Rattle.rebase.specs.declared.watching.Polled.{Polled}
 use Rattle.client_desk.specs.Answers.{TellsChanges, read_by}
-use Rattle.client_desk.specs.declared.faults.Fault.{Fault}
-use Rattle.client_desk.specs.declared.faults.Fault.TheVariants.{NoTicket, NotRead, NoWatch, Reads}
+use Rattle.client_desk.specs.declared.faults.CallFault.{CallFault}
+use Rattle.client_desk.specs.declared.faults.CallFault.TheVariants.{NoTicket, NotRead, NoWatch, Reads}
 use Rattle.client_desk.specs.declared.outcomes.Outcome.{Outcome}
 use Rattle.client_desk.specs.declared.outcomes.Outcome.TheVariants.{Done, Faulty, Number, Refused}
 use Rattle.client_desk.specs.Kept.{kept_at}
@@ -78,7 +78,7 @@ abbrev pub changed : Watched → Polled → Plain
 changed watch polled = record { says = TellsChanges watch (Ok polled); change = None }
 
 -- by what is kept under a number, or the fault where nothing is
-abbrev pub if_kept : {X : Type 0} → Option X → Fault → (X → Plain) → Plain
+abbrev pub if_kept : {X : Type 0} → Option X → CallFault → (X → Plain) → Plain
 if_kept (Some x) none plain = plain x
 if_kept None none plain = looked (told_alone (Faulty none))
 
@@ -115,8 +115,10 @@ module _ (means : Meanings) (s : State) (by : Caller) where
   abbrev pub plain_sitting : List (Option Ticket) → List (Option Watched) → ℕ → Command → Plain
   plain_sitting tickets watches number (command.Query q) = looked (query_told q)
   plain_sitting tickets watches number (command.Begin n) = looked (told (Number n) (asked_at by.identity s).body)
-  plain_sitting tickets watches number (command.End n body) = if_kept (kept_at tickets n) NoTicket (λ kept. ended kept body)
-  plain_sitting tickets watches number (command.Mutate m) = mutated (made by.client (by.last + 1) m.mutator m.args m.time)
+  plain_sitting tickets watches number (command.End n body) =
+      if_kept (kept_at tickets n) NoTicket (λ kept. ended kept body)
+  plain_sitting tickets watches number (command.Mutate m) =
+      mutated (made by.client (by.last + 1) m.mutator m.args m.time)
   plain_sitting tickets watches number command.Refresh = looked (id_told (last_id s by.client))
   plain_sitting tickets watches number command.Moment = looked (id_told number)
   plain_sitting tickets watches number command.Slots = counted
@@ -128,7 +130,8 @@ module _ (means : Meanings) (s : State) (by : Caller) where
       (λ watch. looked (polled_told (poll_at means watch s)))
   plain_sitting tickets watches number (command.Changes n) = if_kept (kept_at watches n) NoWatch
       (λ watch. changed watch (poll_at means watch s))
-  plain_sitting tickets watches number (command.Unwatch n) = if_kept (kept_at watches n) NoWatch (λ watch. looked (told_alone Done))
+  plain_sitting tickets watches number (command.Unwatch n) =
+      if_kept (kept_at watches n) NoWatch (λ watch. looked (told_alone Done))
 
 -- a command of a client that has this open to read: the reading answers queries, and what wants its client isn't done
 abbrev pub plain_reading : Meanings → Caller → List (Option Watched) → Reading → Command → Plain
@@ -145,28 +148,29 @@ abbrev pub plain : Meanings → State → Caller → List (Option Ticket) → Li
 plain means s by tickets watches number None c = plain_sitting means s by tickets watches number c
 plain means s by tickets watches number (Some reading) c = plain_reading means by watches reading c
 
--- What the client has open to read behind a command that came to this: what it had, unless a reading began, at this state
--- and the moment of this number, or ended.
+-- What the client has open to read behind a command that came to this: what it had, unless a reading began, at this
+-- state and the moment of this number, or ended.
 abbrev pub reading_behind : State → ℕ → Option Reading → Command → Outcome → Option Reading
 reading_behind s number was command.BeginRead Done = Some (record { state = s; number = number })
 reading_behind s number was command.EndRead Done = None
 reading_behind s number was c other = was
 
 -- a refusal for want of something: of memory, of a slot or of a stamp
-abbrev pub IsWant : Told → Type 0
-IsWant t = (e : Refusal) × (is_resource_refusal e ≡ true) × (t ≡ told_alone (Refused e))
+abbrev pub IsLack : Told → Type 0
+IsLack t = (e : Refusal) × (is_resource_refusal e ≡ true) × (t ≡ told_alone (Refused e))
 
 -- That is told, and the record gains the change; or it is refused for want of something, and the record stays.
 abbrev pub IsDone : Plain → Told → List Change → List Change → Type 0
-IsDone is t old new = (is.says t × (new ≡ old ++ with_change is.change [])) ⊎ (IsWant t × (new ≡ old))
+IsDone is t old new = (is.says t × (new ≡ old ++ with_change is.change [])) ⊎ (IsLack t × (new ≡ old))
 
--- So is the command of the client of a place, where the group's record is this, and once it was done, this was seen; and
--- the place after it has open to read what it should.
-pub record IsPlain (means : Meanings) (c : Command) (place next : PlaceState) (t : Told)
+-- So is the command of the client of a place, where the group's record is this, and once it was done, this was seen;
+-- and the place after it has open to read what it should.
+pub record IsPlainlyTold (means : Meanings) (c : Command) (place next : PlaceState) (t : Told)
     (old : List Change) (now : Option Known) : Type 0 where
   pub client : ClientState
   pub there : client_at place ≡ Some client
   pub done : IsDone
-      (plain means (after old) (caller_of client) place.tickets place.watches (moment_seen now) (reading_at place) c) t old
+      (plain means (after old) (caller_of client) place.tickets place.watches (moment_seen now) (reading_at place)
+      c) t old
       (record_seen now)
   pub reads : reading_at next ≡ reading_behind (after old) (moment_seen now) (reading_at place) c t.outcome

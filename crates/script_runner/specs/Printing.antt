@@ -10,8 +10,8 @@ use Rattle.script_parser.specs.declared.script.Command.{Command}
 use Rattle.script_parser.specs.declared.script.Command.TheVariants as command
 use Rattle.script_parser.specs.declared.script.Query.{Query}
 use Rattle.script_parser.specs.declared.script.Query.TheVariants as query
-use Rattle.client_desk.specs.declared.faults.Fault.{Fault}
-use Rattle.client_desk.specs.declared.faults.Fault.TheVariants.{NoWatch, NotRead, Reads}
+use Rattle.client_desk.specs.declared.faults.CallFault.{CallFault}
+use Rattle.client_desk.specs.declared.faults.CallFault.TheVariants.{NoWatch, NotRead, Reads}
 use Rattle.client_desk.specs.declared.outcomes.Outcome.{Outcome}
 use Rattle.client_desk.specs.declared.outcomes.Outcome.TheVariants.{Done, Number, Nothing, Is, Asked, Refused, Faulty}
 use Rattle.client_desk.specs.Told.{Told}
@@ -74,7 +74,7 @@ abbrev pub refused_text : Refusal → Bytes
 refused_text e = codes "refused " ++ refusal_name e ++ refusal_detail e
 
 -- what a place lacks, or has open: a client is there, and its group asks for no run
-abbrev pub fault_text : Fault → Bytes
+abbrev pub fault_text : CallFault → Bytes
 fault_text NoWatch = codes "no watch"
 fault_text Reads = codes "reads"
 fault_text NotRead = codes "no reading"

@@ -1,5 +1,6 @@
 -- With which clients a run of a script begins, and how it ends.
-use Rattle.std.specs.Prelude.{ℕ, zero, suc, ◌≡◌, ◌⊎◌, ◌<◌, ⊤, codes, List, [], length, map, Option, None, Some, unwrap_or}
+use Rattle.std.specs.Prelude.{ℕ, zero, suc, ◌≡◌, ◌⊎◌, ◌<◌, ⊤, codes, List, [], length, map, Option}
+use Rattle.std.specs.Prelude.{None, Some, unwrap_or}
 use Rattle.std.specs.Prelude.{Result, Err, IfErr, IfOk, slice_index_or}
 use Rattle.std.specs.Io.KnownBytes.{Appends, Keeps}
 use Rattle.group_history.specs.Map.{Bytes}
@@ -8,7 +9,7 @@ use Rattle.head_word.specs.declared.entry.Entry.{Entry}
 use Rattle.head_word.specs.Books.{opening, opening_ref}
 use Rattle.head_word.specs.Marks.{Known, known}
 use Rattle.push_body.specs.declared.identities.Identity.{Identity}
-use Rattle.commit_graph.specs.Seats.{Seated}
+use Rattle.commit_graph.specs.Seats.{SeatState}
 use Rattle.rebase.specs.Clients.{ClientState, Grouped}
 use Rattle.client_desk.specs.declared.outcomes.Outcome.TheVariants.{Done}
 use Rattle.client_desk.specs.Answers.{SitsDown}
@@ -56,27 +57,27 @@ mark_at group count commit number = known group.group.book (opening count (openi
 
 -- A client before the first phase, by its number, of a group for so many, whose mutators mean this: it sat down at a
 -- new place, by its ID, on the seat of that number.
-pub record IsNew (means : Meanings) (group : Grouped) (count commit number : ℕ) (p : Player) : Type 0 where
+pub record IsNewPlayer (means : Meanings) (group : Grouped) (count commit number : ℕ) (p : Player) : Type 0 where
   pub uuid : Bytes
-  pub seat : Seated
+  pub seat : SeatState
   pub mark : seat.mark ≡ mark_at group count commit number
   pub sat : SitsDown uuid means seat (free_place group seat) (told_alone Done) p.place
 
 -- the clients before the first phase: those of the lines, each with its name and ID, in a group of its own
-pub record AreNew (means : Meanings) (identity : Identity) (lines : List (Bytes × Bytes))
+pub record AreNewPlayers (means : Meanings) (identity : Identity) (lines : List (Bytes × Bytes))
     (players : List Player) : Type 0 where
   pub named : map (λ p. (p.name, id_at p.place)) players ≡ lines
   pub group : Grouped
   pub writes : group.identity ≡ identity
   pub commit : ℕ
   pub all : (i : ℕ) (p : Player) → i < length players
-      → IsNew means group (seats_for (length players)) commit i (slice_index_or players i p)
+      → IsNewPlayer means group (seats_for (length players)) commit i (slice_index_or players i p)
 
 -- A run to the end writes what the phases print that the script says, from its clients on. At its end there is one
 -- record of all that they changed.
-pub record HasRun (said : Context) (old new : Option Bytes) : Type 0 where
+pub record HasPlayed (said : Context) (old new : Option Bytes) : Type 0 where
   pub opened : List Player
-  pub are : AreNew script_means (identity_of said.group said.profile said.schema) said.clients opened
+  pub are : AreNewPlayers script_means (identity_of said.group said.profile said.schema) said.clients opened
   pub text : Bytes
   pub closed : List Player
   pub written : AreWritten script_means opened said.phases text closed
@@ -85,7 +86,7 @@ pub record HasRun (said : Context) (old new : Option Bytes) : Type 0 where
 
 -- A run that memory ended has written what so many whole phases print, none where its clients were not opened.
 pub record HasRunSome (said : Context) (old new : Option Bytes) (opened : List Player) : Type 0 where
-  pub are : AreNew script_means (identity_of said.group said.profile said.schema) said.clients opened
+  pub are : AreNewPlayers script_means (identity_of said.group said.profile said.schema) said.clients opened
   pub written : HasWhole script_means opened said.phases old new
 
 abbrev pub HasStopped : Context → Option Bytes → Option Bytes → Type 0
@@ -98,9 +99,9 @@ IsOfScript fault.NoMemory = ⊥
 IsOfScript fault.Write = ⊥
 
 -- memory was refused
-abbrev pub IsWant : {X : Type 0} → Result X Fault → Type 0
-IsWant (Err fault.NoMemory) = ⊤
-IsWant other = ⊥
+abbrev pub IsRunWant : {X : Type 0} → Result X Fault → Type 0
+IsRunWant (Err fault.NoMemory) = ⊤
+IsRunWant other = ⊥
 
 -- it does not say that the script is faulty
 abbrev pub BlamesNoScript : {X : Type 0} → Result X Fault → Type 0
@@ -112,7 +113,7 @@ KeepsIfFaulty result old new = IfErr result (λ e. IsOfScript e → new ≡ old)
 
 -- a run to the end of the script that the bytes are
 abbrev pub HasRunScript : Bytes → Option Bytes → Option Bytes → Type 0
-HasRunScript script old new = IfOk (script_said script) (λ said. HasRun said old new)
+HasRunScript script old new = IfOk (script_said script) (λ said. HasPlayed said old new)
 
 -- and one that memory ended, maybe before it was a script
 abbrev pub HasStoppedScript : Bytes → Option Bytes → Option Bytes → Type 0

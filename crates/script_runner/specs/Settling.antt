@@ -5,7 +5,7 @@
 use Rattle.std.specs.Prelude.{◌≡◌, ℕ, suc, ◌≤◌, List, length, filter, Option, Some, None, slice_get}
 use Rattle.std.specs.List.{sum_by}
 use Rattle.head_word.specs.Marks.{Known}
-use Rattle.answered.specs.Answered.{is_move, own_moves}
+use Rattle.linearized.specs.Answered.{is_move, own_moves}
 use Rattle.rebase.specs.Clients.{ClientState}
 use Rattle.client_desk.specs.Places.{client_at}
 use Rattle.script_runner.specs.Commanding.{Player}

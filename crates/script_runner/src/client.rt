@@ -1,11 +1,11 @@
 //! A client of a script: its name, and the place at which it sits.
 ghost use Rattle.std.specs.Prelude.{◌≡◌, []};
 ghost use Rattle.client_desk.specs.Told.{told, told_alone};
-ghost use Rattle.script_runner.specs.Commanding.{Asks, AsksMutation, AsksQuery, Makes, MayLearn, MayTell};
+ghost use Rattle.script_runner.specs.Commanding.{AsksDesk, AsksMutation, AsksQuery, Makes, MayLearn, MayTell};
 ghost use Rattle.script_runner.specs.Sights.{CanLearnAll};
 ghost use Rattle.script_runner.specs.Inside.Players.{IsSamePlayer, player_of};
 
-use client_desk::{Call, Fault, Keep, Mutate, Outcome, Place, Whole};
+use client_desk::{CallFault, DeskCall, Keep, Mutate, Outcome, Place, Whole};
 use group_history::{Mutators, Text};
 use head_word::Mark;
 use script_parser::{Command, MutatorCall, Query};
@@ -44,25 +44,35 @@ impl<M: Mutators + Drop> ScriptClient<M> {
         match command {
             Command::Query(query) => self.make(rt, command, call_of(query), bytes),
             Command::Begin(number) => {
-                self.make(rt, command, Call::Begin(Keep::At(*number)), bytes)
+                self.make(rt, command, DeskCall::Begin(Keep::At(*number)), bytes)
             }
             Command::End(number, body) => {
-                let call = Call::End(*number, body.as_str().as_bytes());
+                let call = DeskCall::End(*number, body.as_str().as_bytes());
                 self.make(rt, command, call, bytes)
             }
-            Command::Mutate(asked) => self.make(rt, command, Call::Mutate(mutate_of(asked)), bytes),
-            Command::Refresh => self.make(rt, command, Call::Refresh, bytes),
-            Command::Moment => self.make(rt, command, Call::Moment, bytes),
-            Command::Slots => self.make(rt, command, Call::Slots, bytes),
-            Command::BeginRead => self.make(rt, command, Call::BeginRead, bytes),
-            Command::EndRead => self.make(rt, command, Call::EndRead, bytes),
+            Command::Mutate(asked) => self.make(
+                rt,
+                command,
+                DeskCall::Mutate(mutate_of(asked)),
+                bytes,
+            ),
+            Command::Refresh => self.make(rt, command, DeskCall::Refresh, bytes),
+            Command::Moment => self.make(rt, command, DeskCall::Moment, bytes),
+            Command::Slots => self.make(rt, command, DeskCall::Slots, bytes),
+            Command::BeginRead => self.make(rt, command, DeskCall::BeginRead, bytes),
+            Command::EndRead => self.make(rt, command, DeskCall::EndRead, bytes),
             Command::Learn(place) => self.learn(sights, *place),
             Command::Watch(number, scan) => {
-                self.make(rt, command, Call::Watch(Keep::At(*number), scan), bytes)
+                self.make(rt, command, DeskCall::Watch(Keep::At(*number), scan), bytes)
             }
-            Command::Poll(number) => self.make(rt, command, Call::Poll(*number), bytes),
-            Command::Changes(number) => self.make(rt, command, Call::PollChanges(*number), bytes),
-            Command::Unwatch(number) => self.make(rt, command, Call::Unwatch(*number), bytes),
+            Command::Poll(number) => self.make(rt, command, DeskCall::Poll(*number), bytes),
+            Command::Changes(number) => self.make(
+                rt,
+                command,
+                DeskCall::PollChanges(*number),
+                bytes,
+            ),
+            Command::Unwatch(number) => self.make(rt, command, DeskCall::Unwatch(*number), bytes),
         }
     }
 
@@ -71,10 +81,10 @@ impl<M: Mutators + Drop> ScriptClient<M> {
         &mut self,
         rt: &R,
         command: &Command,
-        call: Call<'_>,
+        call: DeskCall<'_>,
         bytes: &mut Vec<u8>,
     ) -> Outcome
-        requires asked { Asks command.now call }
+        requires asked { AsksDesk command.now call }
         requires empty { bytes.old.items ≡ [] }
         ensures told { Makes M.means command.now self.old.place (told result bytes.new.items) self.new.place }
         ensures same { IsSamePlayer self.old self.new }
@@ -94,7 +104,7 @@ impl<M: Mutators + Drop> ScriptClient<M> {
             self.place.learn(seen);
         }
         if reads {
-            Outcome::Faulty(Fault::Reads)
+            Outcome::Faulty(CallFault::Reads)
         } else {
             Outcome::Done
         }
@@ -112,19 +122,19 @@ fn mutate_of(call: &MutatorCall) -> Mutate<'_>
 }
 
 /// The call that a query is.
-fn call_of(query: &Query) -> Call<'_>
+fn call_of(query: &Query) -> DeskCall<'_>
     ensures { AsksQuery query.now result }
 {
     match query {
-        Query::Get(key) => Call::Get(key.as_str()),
-        Query::Has(key) => Call::Has(key.as_str()),
-        Query::Scan(scan) => Call::Scan(scan),
-        Query::Empty => Call::Empty,
-        Query::Closed => Call::Closed,
-        Query::Pending => Call::Pending,
-        Query::Cookie => Call::Cookie,
-        Query::Push(skip) => Call::Push(*skip),
-        Query::PulledGet(key) => Call::PulledGet(key.as_str()),
-        Query::PulledScan(scan) => Call::PulledScan(scan),
+        Query::Get(key) => DeskCall::Get(key.as_str()),
+        Query::Has(key) => DeskCall::Has(key.as_str()),
+        Query::Scan(scan) => DeskCall::Scan(scan),
+        Query::Empty => DeskCall::Empty,
+        Query::Closed => DeskCall::Closed,
+        Query::Pending => DeskCall::Pending,
+        Query::Cookie => DeskCall::Cookie,
+        Query::Push(skip) => DeskCall::Push(*skip),
+        Query::PulledGet(key) => DeskCall::PulledGet(key.as_str()),
+        Query::PulledScan(scan) => DeskCall::PulledScan(scan),
     }
 }

@@ -5,19 +5,20 @@
 //!
 //! The client of a line first learns what the lines before have seen. So its call begins where theirs ended, and as the
 //! clients have all seats of the group, nobody changes it in between: `told` says that a line is answered on top of all
-//! lines before it, `steady` and the clause of `settle` that this holds of each line once the last one is done. One that
-//! has a reading open learns nothing: it reads what the line found that began it, and sees nothing that others haven't.
+//! lines before it, `steady` and the clause of `settle` that this holds of each line once the last one is done. One
+//! that has a reading open learns nothing: it reads what the line found that began it, and sees nothing that others
+//! haven't.
 ghost use Rattle.std.specs.Prelude.{◌≡◌, IfOk};
 ghost use Rattle.std.specs.Arc.{arc_value};
 ghost use Rattle.std.specs.Coded.{Coded-set, codes, Π_prop, →_prop};
 ghost use Rattle.script_runner.specs.Phases.{all_sights};
-ghost use Rattle.script_runner.specs.Commanding.{Learns};
+ghost use Rattle.script_runner.specs.Commanding.{LearnsFirst};
 ghost use Rattle.script_runner.specs.Sights.{CanLearnAll, IsSeenAt};
 ghost use Rattle.script_runner.specs.Inside.Players.{IsSamePlayer};
 ghost use Rattle.script_runner.specs.Inside.Turns.{AreOf};
 
 use crate::client::ScriptClient;
-use crate::phase::{Turn, sights_of};
+use crate::phase::{ClientTurn, sights_of};
 use crate::record::gather;
 use crate::runner::{ScriptGroup, open_clients, open_group};
 use crate::words::print_line;
@@ -32,7 +33,7 @@ use std::sync::{Arc, Wait};
 pub struct Clients<M: Mutators + Drop> {
     alloc: Global,
     group: Arc<ScriptGroup<M>, Global>,
-    turns: Vec<Turn<M>>,
+    turns: Vec<ClientTurn<M>>,
     sights: Vec<Option<Mark<Whole<M>>>>,
     seen: Option<Mark<Whole<M>>>,
     ghost of_group: { AreOf (arc_value group) turns.items } by { Π_prop
@@ -62,7 +63,7 @@ impl<M: Mutators + Drop> Drop for Clients<M> {
 /// A client learns what was seen, where anything was. One that has a reading open doesn't.
 fn catch_up<M: Mutators + Drop>(client: &mut ScriptClient<M>, seen: &Option<Mark<Whole<M>>>)
     requires { IsSeenAt client.old.place.group seen.now }
-    ensures learnt { Learns seen.now client.old.place client.new.place }
+    ensures learnt { LearnsFirst seen.now client.old.place client.new.place }
     ensures same { IsSamePlayer client.old client.new }
 {
     if let Some(seen) = seen {
@@ -78,7 +79,7 @@ impl<M: Mutators + Drop> Clients<M> {
     ghost use Rattle.script_parser.specs.Scripts.{client_said, line_said};
     ghost use Rattle.script_runner.specs.Answering.{IsToldAt, players_in, seen_in, sights_in};
     ghost use Rattle.script_runner.specs.Inside.Calls.{IsCalledAt};
-    ghost use Rattle.script_runner.specs.Runs.{AreNew, header_identity};
+    ghost use Rattle.script_runner.specs.Runs.{AreNewPlayers, header_identity};
     ghost use Rattle.script_runner.specs.Settling.{AreSteady, IsWhole, StaySteady};
 
     /// Opens a group for the lines before the first phase, and a client for each `client` line, in their order. The
@@ -86,7 +87,7 @@ impl<M: Mutators + Drop> Clients<M> {
     /// memory.
     pub fn open(alloc: Global, header: &Header, mutators: M) -> Result<Clients<M>, AllocError>
         requires { IsInRange header.now }
-        ensures new { IfOk result (λ clients. AreNew M.means (header_identity header.now)
+        ensures new { IfOk result (λ clients. AreNewPlayers M.means (header_identity header.now)
             (map client_said header.now.clients.items) (players_in clients)) }
         ensures sights { IfOk result (λ clients. sights_in clients ≡ all_sights (players_in clients)) }
         ensures seen { IfOk result (λ clients. seen_in clients ≡ None) }
@@ -168,8 +169,8 @@ impl<M: Mutators + Drop> Clients<M> {
         print_line(text, line, name, outcome, &bytes)
     }
 
-    /// Ends the group, once the last line is done: open readings end, and all clients learn of each other. So it is known
-    /// that none but they changed the group. Takes no memory.
+    /// Ends the group, once the last line is done: open readings end, and all clients learn of each other. So it is
+    /// known that none but they changed the group. Takes no memory.
     pub fn settle(self)
         requires { AreSteady (players_in self) (seen_in self) }
         ensures { IsWhole (players_in self) (seen_in self) }

@@ -80,12 +80,12 @@ impl<M: Mutators + Drop> ScriptClient<M> {
 
 /// A client, and what is printed of its part of a phase.
 #[derive(Drop)]
-pub(crate) struct Turn<M: Mutators + Drop> {
+pub(crate) struct ClientTurn<M: Mutators + Drop> {
     pub(crate) client: ScriptClient<M>,
     pub(crate) printed: Result<Vec<u8>, AllocError>,
 }
 
-impl<M: Mutators + Drop> Turn<M> {
+impl<M: Mutators + Drop> ClientTurn<M> {
     fn play<R: Wait, G: Gate>(
         &mut self,
         host: &Host<'_, R, G>,
@@ -102,7 +102,7 @@ impl<M: Mutators + Drop> Turn<M> {
 /// What each client has seen, which all others of its group can learn.
 pub(crate) fn sights_of<M: Mutators + Drop>(
     alloc: Global,
-    turns: &[Turn<M>],
+    turns: &[ClientTurn<M>],
 ) -> Result<Vec<Option<Mark<Whole<M>>>>, AllocError>
     ensures seen { IfOk result (λ sights. sights.items ≡ all_sights (players_of turns.now)) }
     ensures there { IfOk result (λ sights. (group : Grouped) → AreOf group turns.now → CanLearnAll group sights.items) }
@@ -124,7 +124,7 @@ fn threads_for(clients: usize, busy: usize) -> usize
 /// Does the lines of a phase: those of each place by the client of that place, on a thread of its own.
 pub(crate) fn run_phase<R: Threads + Wait + Sync, G: Gate, M: Mutators + Send + Drop>(
     host: &Host<'_, R, G>,
-    turns: &mut [Turn<M>],
+    turns: &mut [ClientTurn<M>],
     phase: &Phase,
 ) -> Result<(), AllocError>
     requires lines { length turns.old ≡ phase.now.clients }

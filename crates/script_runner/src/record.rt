@@ -4,7 +4,7 @@ ghost use Rattle.std.specs.Prelude.{ℕ, ◌≡◌, ◌<◌, List, length};
 ghost use Rattle.std.specs.List.{All};
 ghost use Rattle.head_word.specs.declared.entry.Entry.{Entry};
 ghost use Rattle.head_word.specs.Books.{IsOpened};
-ghost use Rattle.script_runner.specs.Commanding.{Learns};
+ghost use Rattle.script_runner.specs.Commanding.{LearnsFirst};
 ghost use Rattle.script_runner.specs.Records.{IsRecordOf};
 ghost use Rattle.script_runner.specs.Sights.{sight_at};
 ghost use Rattle.script_runner.specs.Inside.Players.{players_of};
@@ -12,15 +12,15 @@ ghost use Rattle.script_runner.specs.Inside.Records.{AreConfirmed, AreSeated, Co
 ghost use Rattle.script_runner.specs.Inside.Records.{HaveReadThrough, IsManned, IsSitting, log_at};
 ghost use Rattle.script_runner.specs.Inside.Turns.{AreOf, AreOfOneGroup};
 
-use crate::phase::Turn;
-use client_desk::Call;
+use crate::phase::ClientTurn;
+use client_desk::DeskCall;
 use group_history::Mutators;
 use std::alloc::Global;
 
 /// A client learns what another one of its group has seen.
-fn hear<M: Mutators + Drop>(turn: &mut Turn<M>, other: &Turn<M>)
+fn hear<M: Mutators + Drop>(turn: &mut ClientTurn<M>, other: &ClientTurn<M>)
     requires group { other.now.client.place.group ≡ turn.old.client.place.group }
-    ensures { Learns (sight_at other.now.client.place) turn.old.client.place turn.new.client.place }
+    ensures { LearnsFirst (sight_at other.now.client.place) turn.old.client.place turn.new.client.place }
 {
     if let Some(seen) = other.client.place.sight() {
         turn.client.place.learn(&seen);
@@ -28,7 +28,7 @@ fn hear<M: Mutators + Drop>(turn: &mut Turn<M>, other: &Turn<M>)
 }
 
 /// A client learns what all others have seen.
-fn hear_all<M: Mutators + Drop>(turn: &mut Turn<M>, others: &[Turn<M>])
+fn hear_all<M: Mutators + Drop>(turn: &mut ClientTurn<M>, others: &[ClientTurn<M>])
     requires group { AreOf turn.old.client.place.group others.now }
     requires sits { IsSitting turn.old }
     requires all { All IsSitting others.now }
@@ -41,7 +41,7 @@ fn hear_all<M: Mutators + Drop>(turn: &mut Turn<M>, others: &[Turn<M>])
 }
 
 /// Each client learns what another one has seen.
-fn confirm_all<M: Mutators + Drop>(turns: &mut [Turn<M>], other: &Turn<M>)
+fn confirm_all<M: Mutators + Drop>(turns: &mut [ClientTurn<M>], other: &ClientTurn<M>)
     requires group { AreOf other.now.client.place.group turns.old }
     requires sits { IsSitting other.now }
     requires all { All IsSitting turns.old }
@@ -53,7 +53,7 @@ fn confirm_all<M: Mutators + Drop>(turns: &mut [Turn<M>], other: &Turn<M>)
 }
 
 /// What the client of a turn has seen is a legal book.
-fn is_legal<M: Mutators + Drop>(turn: &Turn<M>)
+fn is_legal<M: Mutators + Drop>(turn: &ClientTurn<M>)
     requires { IsSitting turn.now }
     ensures { IsOpened M.means (log_at turn.now) }
 {
@@ -63,16 +63,16 @@ fn is_legal<M: Mutators + Drop>(turn: &Turn<M>)
 }
 
 /// The client of a turn sits at its place: a reading that it has open ends.
-fn read_through<M: Mutators + Drop>(alloc: Global, turn: &mut Turn<M>)
+fn read_through<M: Mutators + Drop>(alloc: Global, turn: &mut ClientTurn<M>)
     requires { IsManned turn.old }
     ensures { HasReadThrough turn.old turn.new }
 {
     let mut bytes = Vec::new(alloc);
-    let _ = turn.client.place.call(Call::EndRead, &mut bytes);
+    let _ = turn.client.place.call(DeskCall::EndRead, &mut bytes);
 }
 
 /// So do the clients of all turns.
-fn read_all_through<M: Mutators + Drop>(alloc: Global, turns: &mut [Turn<M>])
+fn read_all_through<M: Mutators + Drop>(alloc: Global, turns: &mut [ClientTurn<M>])
     requires { All IsManned turns.old }
     ensures { HaveReadThrough (length turns.old) turns.old turns.new }
 {
@@ -82,7 +82,7 @@ fn read_all_through<M: Mutators + Drop>(alloc: Global, turns: &mut [Turn<M>])
 }
 
 /// One client learns what all others have seen, and the others learn that from it.
-fn unite<M: Mutators + Drop>(turns: &mut [Turn<M>])
+fn unite<M: Mutators + Drop>(turns: &mut [ClientTurn<M>])
     requires one { AreOfOneGroup turns.old }
     requires all { All IsSitting turns.old }
     ensures { (count commit : ℕ) → AreSeated count commit (players_of turns.old) → count ≡ length turns.old
@@ -96,7 +96,7 @@ fn unite<M: Mutators + Drop>(turns: &mut [Turn<M>])
 }
 
 /// At the end of a run open readings end, and the clients learn of each other what they have seen. Takes no memory.
-pub(crate) fn gather<M: Mutators + Drop>(alloc: Global, turns: &mut [Turn<M>])
+pub(crate) fn gather<M: Mutators + Drop>(alloc: Global, turns: &mut [ClientTurn<M>])
     requires one { AreOfOneGroup turns.old }
     requires all { All IsManned turns.old }
     ensures { (count commit : ℕ) → AreSeated count commit (players_of turns.old) → count ≡ length turns.old

@@ -3,7 +3,7 @@ ghost use Rattle.std.specs.Prelude.{ℕ, ◌≡◌, ◌≤◌, ◌+◌, ◌-◌,
 ghost use Rattle.std.specs.Arc.{arc_value};
 ghost use Rattle.std.specs.Io.KnownBytes.{Appends, Keeps};
 ghost use Rattle.std.specs.List.{All, concat};
-ghost use Rattle.commit_graph.specs.Seats.{Seated};
+ghost use Rattle.commit_graph.specs.Seats.{SeatState};
 ghost use Rattle.rebase.specs.Clients.{AreSeatsOf};
 ghost use Rattle.client_desk.specs.Places.{free_place};
 ghost use Rattle.uuid.specs.Text.{hyphenated_text, lower};
@@ -12,16 +12,16 @@ ghost use Rattle.script_parser.specs.Context.{Context};
 ghost use Rattle.script_parser.specs.Kept.{IsInRange};
 ghost use Rattle.script_parser.specs.Scripts.{IsChecked, IsScript, client_said, phase_said};
 ghost use Rattle.script_runner.specs.Phases.{HasWhole, HasWritten, IsPhase};
-ghost use Rattle.script_runner.specs.Runs.{AreNew, BlamesNoScript, HasRunScript, HasStoppedScript, IsWant};
+ghost use Rattle.script_runner.specs.Runs.{AreNewPlayers, BlamesNoScript, HasRunScript, HasStoppedScript, IsRunWant};
 ghost use Rattle.script_runner.specs.Runs.{KeepsIfFaulty, header_identity, mark_at, seats_for};
 ghost use Rattle.script_runner.specs.Inside.Players.{AreLeftOf, AreNewIn, IsNewIn, line_of, players_of};
 ghost use Rattle.script_runner.specs.Inside.Runs.{IsRun};
 ghost use Rattle.script_runner.specs.Inside.Turns.{AreOfOneGroup, IsPrinted, StayInGroup, texts_of};
 
 use crate::client::ScriptClient;
-use crate::phase::{Gate, Host, Turn, run_phase};
+use crate::phase::{ClientTurn, Gate, Host, run_phase};
 use crate::record::gather;
-use client_desk::{Call, Outcome, Place, Whole};
+use client_desk::{DeskCall, Outcome, Place, Whole};
 use group_history::Mutators;
 use rebase::{Arena, Config, Group, Seats, Uuid};
 use script_mutators::ScriptMutators;
@@ -37,7 +37,10 @@ pub(crate) type ScriptGroup<M> = Group<Whole<M>, Arena<Whole<M>>>;
 pub(crate) type ScriptSeats<M> = Seats<Whole<M>, Arena<Whole<M>>>;
 
 /// What a phase prints, client by client.
-fn text_of<M: Mutators + Drop>(alloc: Global, turns: &[Turn<M>]) -> Result<Vec<u8>, AllocError>
+fn text_of<M: Mutators + Drop>(
+    alloc: Global,
+    turns: &[ClientTurn<M>],
+) -> Result<Vec<u8>, AllocError>
     ensures text { IfOk result (λ v. v.items ≡ concat (texts_of turns.now)) }
     ensures all { OnOk result (All IsPrinted turns.now) }
 {
@@ -54,7 +57,7 @@ fn text_of<M: Mutators + Drop>(alloc: Global, turns: &[Turn<M>]) -> Result<Vec<u
 /// Runs a phase, and writes what it prints when it has ended.
 fn write_phase<R: Threads + Wait + Sync, G: Gate, M: Mutators + Send + Drop, W: io::Write>(
     host: &Host<'_, R, G>,
-    turns: &mut [Turn<M>],
+    turns: &mut [ClientTurn<M>],
     phase: &Phase,
     out: &mut W,
 ) -> Result<(), Fault>
@@ -65,7 +68,7 @@ fn write_phase<R: Threads + Wait + Sync, G: Gate, M: Mutators + Send + Drop, W: 
     ensures text { OnOk result (Appends (W.contents out.old) (W.contents out.new) (concat (texts_of turns.new))) }
     ensures group { StayInGroup turns.old turns.new }
     ensures count { length turns.new ≡ length turns.old }
-    ensures want { IsWant result → Keeps (W.contents out.old) (W.contents out.new) }
+    ensures want { IsRunWant result → Keeps (W.contents out.old) (W.contents out.new) }
     ensures fault { BlamesNoScript result }
 {
     run_phase(host, turns, phase)?;
@@ -79,7 +82,7 @@ fn write_phase<R: Threads + Wait + Sync, G: Gate, M: Mutators + Send + Drop, W: 
 /// Runs the phases of a script, and writes what each prints when it has ended.
 fn run_phases<R: Threads + Wait + Sync, G: Gate, M: Mutators + Send + Drop, W: io::Write>(
     host: &Host<'_, R, G>,
-    turns: &mut [Turn<M>],
+    turns: &mut [ClientTurn<M>],
     phases: &[Phase],
     out: &mut W,
 ) -> Result<(), Fault>
@@ -87,7 +90,7 @@ fn run_phases<R: Threads + Wait + Sync, G: Gate, M: Mutators + Send + Drop, W: i
     requires one { AreOfOneGroup turns.old }
     ensures written { OnOk result (HasWritten M.means (players_of turns.old) (map phase_said phases.now)
         (W.contents out.old) (W.contents out.new) (players_of turns.new)) }
-    ensures want { IsWant result → HasWhole M.means (players_of turns.old) (map phase_said phases.now)
+    ensures want { IsRunWant result → HasWhole M.means (players_of turns.old) (map phase_said phases.now)
         (W.contents out.old) (W.contents out.new) }
     ensures group { StayInGroup turns.old turns.new }
     ensures fault { BlamesNoScript result }
@@ -155,20 +158,20 @@ fn sit<M: Mutators + Drop>(
     alloc: Global,
     id: &Uuid,
     client: ScriptClient<M>,
-) -> Result<Turn<M>, AllocError>
-    requires { (seat : Seated) × (client.place ≡ free_place client.place.group seat) }
+) -> Result<ClientTurn<M>, AllocError>
+    requires { (seat : SeatState) × (client.place ≡ free_place client.place.group seat) }
     ensures name { IfOk result (λ turn. line_of turn ≡ (client.name, hyphenated_text lower id.now)) }
-    ensures new { (seat : Seated) (count commit number : ℕ) → client.place ≡ free_place client.place.group seat
+    ensures new { (seat : SeatState) (count commit number : ℕ) → client.place ≡ free_place client.place.group seat
         → seat.mark ≡ mark_at client.place.group count commit number
         → IfOk result (IsNewIn M.means client.place.group count commit number) }
 {
     let mut client = client;
     let mut bytes = Vec::new(alloc);
     // In a new group, in one thread, want of memory alone refuses a client.
-    let Outcome::Done = client.place.call(Call::Sit(id), &mut bytes) else {
+    let Outcome::Done = client.place.call(DeskCall::Sit(id), &mut bytes) else {
         return Err(AllocError);
     };
-    Ok(Turn {
+    Ok(ClientTurn {
         client,
         printed: Ok(bytes),
     })
@@ -180,7 +183,7 @@ fn open_client<M: Mutators + Drop>(
     line: &ClientLine,
     group: &Arc<ScriptGroup<M>, Global>,
     seats: &mut ScriptSeats<M>,
-) -> Result<Turn<M>, AllocError>
+) -> Result<ClientTurn<M>, AllocError>
     requires free { 1 ≤ length seats.old.free }
     requires seats { AreSeatsOf (arc_value group.now).group seats.old.free }
     ensures left { IfOk result (λ _. length seats.old.free ≡ length seats.new.free + 1) }
@@ -205,7 +208,7 @@ pub(crate) fn open_clients<M: Mutators + Drop>(
     lines: &[ClientLine],
     group: &Arc<ScriptGroup<M>, Global>,
     seats: ScriptSeats<M>,
-) -> Result<Vec<Turn<M>>, AllocError>
+) -> Result<Vec<ClientTurn<M>>, AllocError>
     requires free { length lines.now ≤ length seats.free }
     requires seats { AreSeatsOf (arc_value group.now).group seats.free }
     ensures lines { IfOk result (λ turns. map line_of turns.items ≡ map client_said lines.now) }
@@ -226,9 +229,9 @@ fn open_script<M: Mutators + Drop>(
     alloc: Global,
     header: &Header,
     mutators: M,
-) -> Result<Vec<Turn<M>>, Fault>
+) -> Result<Vec<ClientTurn<M>>, Fault>
     requires { IsInRange header.now }
-    ensures new { IfOk result (λ turns. AreNew M.means (header_identity header.now)
+    ensures new { IfOk result (λ turns. AreNewPlayers M.means (header_identity header.now)
         (map client_said header.now.clients.items) (players_of turns.items)) }
     ensures fault { BlamesNoScript result }
 {
@@ -249,7 +252,7 @@ fn run_shared<R: AllocGlobal + Threads + Wait + Sync, G: Gate, W: io::Write>(
 {
     let alloc = rt.alloc();
     let mut turns = open_script(alloc, &script.header, ScriptMutators)?;
-    let turns: &mut [Turn<ScriptMutators>] = &mut turns;
+    let turns: &mut [ClientTurn<ScriptMutators>] = &mut turns;
     run_phases(&Host { rt, alloc, gate }, turns, &script.phases, out)?;
     gather(alloc, turns);
     Ok(())
@@ -267,7 +270,7 @@ pub fn run<R: AllocGlobal + Threads + Wait + Sync, G: Gate, W: io::Write>(
     ensures first { Checks (first_fault script.now) result }
     ensures nothing_written { KeepsIfFaulty result (W.contents out.old) (W.contents out.new) }
     ensures written { OnOk result (HasRunScript script.now (W.contents out.old) (W.contents out.new)) }
-    ensures want { IsWant result → HasStoppedScript script.now (W.contents out.old) (W.contents out.new) }
+    ensures want { IsRunWant result → HasStoppedScript script.now (W.contents out.old) (W.contents out.new) }
 {
     let checked = read_script(rt.alloc(), script)?;
     run_shared(rt, &checked, gate, out)
@@ -295,7 +298,7 @@ pub(crate) fn run_owned<R: AllocGlobal + Threads + Wait + Sync, G: Gate, W: io::
     ensures first { Checks (first_fault script.items) result }
     ensures nothing_written { KeepsIfFaulty result (W.contents out.old) (W.contents out.new) }
     ensures written { OnOk result (HasRunScript script.items (W.contents out.old) (W.contents out.new)) }
-    ensures want { IsWant result → HasStoppedScript script.items (W.contents out.old) (W.contents out.new) }
+    ensures want { IsRunWant result → HasStoppedScript script.items (W.contents out.old) (W.contents out.new) }
 {
     let checked = read_owned(rt.alloc(), script)?;
     run_shared(rt, &checked, gate, out)

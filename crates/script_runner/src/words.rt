@@ -6,7 +6,7 @@ ghost use Rattle.client_desk.specs.Told.{told};
 ghost use Rattle.script_runner.specs.Printing.{done_word, fault_text, line_text, nothing_word, number_text};
 ghost use Rattle.script_runner.specs.Printing.{outcome_text, query_word, refusal_detail, refused_text, told_text};
 
-use client_desk::{Fault, Outcome};
+use client_desk::{CallFault, Outcome};
 use group_history::Refusal;
 use script_parser::{Command, Line, Query};
 use std::alloc::AllocError;
@@ -107,13 +107,13 @@ fn print_refusal(refusal: Refusal, out: &mut Vec<u8>) -> Result<(), AllocError>
 }
 
 // What a place lacks, or has open.
-fn fault_text(fault: Fault) -> &'static str
+fn fault_text(fault: CallFault) -> &'static str
     ensures { result.now ≡ fault_text fault }
 {
     match fault {
-        Fault::NoWatch => "no watch",
-        Fault::Reads => "reads",
-        Fault::NotRead => "no reading",
+        CallFault::NoWatch => "no watch",
+        CallFault::Reads => "reads",
+        CallFault::NotRead => "no reading",
         _ => "no ticket",
     }
 }

@@ -6,8 +6,8 @@ use Rattle.std.proofs.lemmas.Str.{is_utf8-from_IsUtf8, IsUtf8-from_is_utf8}
 use Rattle.std.specs.Prelude.{None, Result, Ok, Err, IfOk, OnOk}
 use Rattle.std.specs.Str.{IsUtf8, is_utf8}
 use Rattle.group_history.specs.Map.{Bytes}
-use Rattle.script_parser.specs.declared.script.Asked.{Asked}
-use Rattle.script_parser.specs.declared.script.Asked.TheVariants as asked
+use Rattle.script_parser.specs.declared.script.LineKind.{LineKind}
+use Rattle.script_parser.specs.declared.script.LineKind.TheVariants as asked
 use Rattle.script_parser.specs.declared.script.Line.{Line}
 use Rattle.script_parser.specs.Context.{Context, Lines}
 use Rattle.script_parser.specs.Kept.{bare, new_phase, without_lines}
@@ -15,11 +15,11 @@ use Rattle.script_parser.specs.Reading.{AsksFor, bytes_said_with}
 use Rattle.script_parser.specs.Scripts.{line_said}
 use Rattle.script_runner.specs.Phases.{all_sights}
 use Rattle.script_runner.proofs.Lines.{told_plain}
-use Rattle.script_server.specs.Answers.{Answers, AnswersBy, BeginsPhase, Does, Opens, Says, given_before}
+use Rattle.script_server.specs.Answers.{Answers, AnswersBy, BeginsPhase, Does, OpensGroup, Says, given_before}
 use Rattle.script_server.specs.Answers.{behind_rules, given_in, ok_text, rules_given}
 use Rattle.script_server.specs.Standing.{Standing, means_in}
-use Rattle.script_server.specs.declared.heads.Head.{Head}
-use Rattle.script_server.specs.declared.heads.Head.TheVariants as head
+use Rattle.script_server.specs.declared.heads.HeaderLine.{HeaderLine}
+use Rattle.script_server.specs.declared.heads.HeaderLine.TheVariants as head
 use Rattle.script_server.specs.Inside.Stages.{HasDone, IsFirstPhase, IsHead, IsHeadOf, IsNoCommand, IsOpen}
 use Rattle.script_server.specs.Inside.Stages.{IsPlaced, WhereWhole}
 
@@ -41,7 +41,7 @@ answers_other : (n : ℕ) (line : Bytes) (before : Standing) (text : Bytes) (aft
 answers_other n line before text after none says = subst (λ o. AnswersBy o n line before text after) (sym none) says
 
 -- a line that says something
-pub answers_said : (n : ℕ) (line : Bytes) (before : Standing) (text : Bytes) (after : Standing) (what : Asked)
+pub answers_said : (n : ℕ) (line : Bytes) (before : Standing) (text : Bytes) (after : Standing) (what : LineKind)
     (said : Context) → given_in before line ≡ None → bytes_said_with before.said n line ≡ Ok said
     → AsksFor n before.said what said → Does what n before (without_lines said) text after
     → Answers n line before text after
@@ -82,7 +82,7 @@ pub begins_next : (before : Standing) (said : Context) (after : Standing) → Is
 begins_next before said after there is = begins_later before.said.phases before said after there.begun is
 
 -- the client of a command is there
-pub placed : (n : ℕ) (what : Asked) (before : Standing) (said : Context) → IsOpen before
+pub placed : (n : ℕ) (what : LineKind) (before : Standing) (said : Context) → IsOpen before
     → AsksFor n before.said what said → IsPlaced what before.players
 placed n asked.Nothing before said there asks = tt
 placed n asked.Phase before said there asks = tt
@@ -90,7 +90,7 @@ placed n (asked.Command place line) before said there asks =
     subst (λ k. place < k) (sym there.clients) asks.1
 
 -- what a line asks was done
-pub answers_done : (what : Asked) (n : ℕ) (line : Bytes) (before : Standing) (text : Bytes) (after : Standing)
+pub answers_done : (what : LineKind) (n : ℕ) (line : Bytes) (before : Standing) (text : Bytes) (after : Standing)
     (said : Context) → IsOpen before → bytes_said_with before.said n line ≡ Ok said → AsksFor n before.said what said
     → HasDone what n (record before { said = without_lines said }) text after
     → WhereWhole before after (Answers n line before text after)
@@ -108,7 +108,7 @@ answers_done (asked.Command place l) n line before text after said there right a
       left = done.left;
     })
 
-pub on_done : {E : Type 0} (what : Asked) (r : Result (Unit {0}) E) (n : ℕ) (line : Bytes) (before : Standing)
+pub on_done : {E : Type 0} (what : LineKind) (r : Result (Unit {0}) E) (n : ℕ) (line : Bytes) (before : Standing)
     (text : Bytes) (after : Standing) (said : Context) → IsOpen before → bytes_said_with before.said n line ≡ Ok said
     → AsksFor n before.said what said
     → OnOk r (HasDone what n (record before { said = without_lines said }) text after)
@@ -121,11 +121,11 @@ on_done what (Err e) n line before text after said there right asks done = tt
 
 -- the line that begins the first phase is answered where its group is opened
 pub answers_first : (n : ℕ) (line : Bytes) (before mid after : Standing) → IsFirstPhase n line before mid
-    → Opens mid mid.said after → Answers n line before (ok_text n) after
+    → OpensGroup mid mid.said after → Answers n line before (ok_text n) after
 answers_first n line before mid after first opens =
-    let kept : Opens (record before { said = without_lines first.said }) (without_lines first.said) after
-    = subst (λ s. Opens s s.said after) first.kept opens in
-    let opened : Opens before (without_lines first.said) after = record {
+    let kept : OpensGroup (record before { said = without_lines first.said }) (without_lines first.said) after
+    = subst (λ s. OpensGroup s s.said after) first.kept opens in
+    let opened : OpensGroup before (without_lines first.said) after = record {
       said = kept.said;
       rules = kept.rules;
       players = kept.players;
@@ -146,20 +146,21 @@ begun_by n c said none asks =
     subst (λ ps. 0 < length (bare (length said.clients) ps)) (sym one) (omega arith)
 
 -- what the code knows of a line that was answered before the first phase
-pub answers_head : (h : Head) (n : ℕ) (line read : Bytes) (before : Standing) (text : Bytes) (after : Standing)
+pub answers_head : (h : HeaderLine) (n : ℕ) (line read : Bytes) (before : Standing) (text : Bytes) (after : Standing)
     → h ≡ head.Answered → line ≡ read → IsHead h n line before text after → Answers n read before text after
 answers_head h n line read before text after is same known =
     subst (λ l. Answers n l before text after) same
     (subst (λ k. IsHead k n line before text after) is known).0
 
-pub no_command_asked : (n : ℕ) (what : Asked) (c said : Context) → c.phases ≡ [] → AsksFor n c what said
+pub no_command_asked : (n : ℕ) (what : LineKind) (c said : Context) → c.phases ≡ [] → AsksFor n c what said
     → IsNoCommand what
 no_command_asked n asked.Nothing c said none asks = tt
 no_command_asked n asked.Phase c said none asks = tt
 no_command_asked n (asked.Command place line) c said none asks = no_command n place line c said none asks
 
 -- what a line before the first phase asks, and what became of it
-head_asked : (what : Asked) (h : Head) (n : ℕ) (line : Bytes) (before : Standing) (text : Bytes) (after : Standing)
+head_asked : (what : LineKind) (h : HeaderLine) (n : ℕ) (line : Bytes) (before : Standing) (text : Bytes)
+    (after : Standing)
     (said : Context) → before.said.phases ≡ [] → given_in before line ≡ None
     → bytes_said_with before.said n line ≡ Ok said → AsksFor n before.said what said
     → after ≡ record before { said = without_lines said } → IsHeadOf what n h text
@@ -180,7 +181,7 @@ head_asked asked.Phase h n line before text after said none other right asks kep
     })
 head_asked (asked.Command place l) h n line before text after said none other right asks kept is = absurd is
 
-pub heads_asked : {E : Type 0} (what : Asked) (r : Result Head E) (n : ℕ) (line : Bytes) (before : Standing)
+pub heads_asked : {E : Type 0} (what : LineKind) (r : Result HeaderLine E) (n : ℕ) (line : Bytes) (before : Standing)
     (text : Bytes) (after : Standing) (said : Context) → before.said.phases ≡ [] → given_in before line ≡ None
     → bytes_said_with before.said n line ≡ Ok said → AsksFor n before.said what said
     → after ≡ record before { said = without_lines said } → IfOk r (λ h. IsHeadOf what n h text)

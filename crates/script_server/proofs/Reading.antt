@@ -5,7 +5,7 @@ use Rattle.std.proofs.Math.Dec.{eqb-suc-zero}
 use Rattle.std.specs.Prelude.{Option, Some, None, IfSome, if◌then◌else◌}
 use Rattle.std.specs.Io.BufRead.{take_through, drop_through, strip_last, DropsThrough}
 use Rattle.group_history.specs.Map.{Bytes}
-use Rattle.script_server.specs.Lines.{HasTaken}
+use Rattle.script_server.specs.Lines.{HasTakenLine}
 use Rattle.script_server.specs.Inside.Reads.{HasRead}
 
 -- of bytes that are there, one at least is before the next line feed, or it is that one
@@ -19,9 +19,9 @@ any_read true line new = tt
 any_read false line new = tt
 
 line_taken : (x : ℕ) (xs line : Bytes) (new : Option Bytes) → line ≡ strip_last 10 (take_through 10 (x ∷ xs))
-    → new ≡ Some (drop_through 10 (x ∷ xs)) → HasTaken (Some (x ∷ xs)) (line ∷ []) new
+    → new ≡ Some (drop_through 10 (x ∷ xs)) → HasTakenLine (Some (x ∷ xs)) (line ∷ []) new
 line_taken x xs line new first rest =
-    subst (HasTaken (Some (x ∷ xs)) (line ∷ [])) (sym rest) (
+    subst (HasTakenLine (Some (x ∷ xs)) (line ∷ [])) (sym rest) (
       drop_through 10 (x ∷ xs),
       record { more = omega arith; first = first; left = refl },
       refl,
@@ -42,5 +42,5 @@ read_is (Some (x ∷ xs)) new start read line none is rest first =
 
 -- a line that was read was taken
 pub was_read : (b : Bool) (old new : Option Bytes) (line : Bytes) → b ≡ true → HasRead old b line new
-    → HasTaken old (line ∷ []) new
+    → HasTakenLine old (line ∷ []) new
 was_read b old new line is read = subst (λ there. HasRead old there line new) is read

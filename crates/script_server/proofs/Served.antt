@@ -9,8 +9,8 @@ use Rattle.std.specs.Io.KnownBytes.{Appends, Keeps}
 use mathlib.Core.List.{IsPrefix}
 use Rattle.group_history.specs.Map.{Bytes}
 use Rattle.script_server.specs.Answers.{Answers, IsLine}
-use Rattle.script_server.specs.Lines.{AreLines, HasTaken}
-use Rattle.script_server.specs.Serving.{HasEnded, IsCut, Place, Served, Serves}
+use Rattle.script_server.specs.Lines.{AreLines, HasTakenLine}
+use Rattle.script_server.specs.Serving.{HasEnded, IsCut, ServedPlace, Served, Serves}
 use Rattle.script_server.specs.Standing.{Standing}
 use Rattle.script_server.specs.Inside.Writes.{IsBeginning, WritesSome}
 
@@ -26,13 +26,14 @@ lines_on : (bytes mid rest : Bytes) (ls ms : List Bytes) → AreLines bytes ls m
 lines_on bytes mid rest [] ms h k = subst (λ b. AreLines b ms rest) h k
 lines_on bytes mid rest (l ∷ ls) ms h k = (h.0, h.1, lines_on h.0 mid rest ls ms h.2 k)
 
-taken_on : (a b c : Option Bytes) (ls ms : List Bytes) → HasTaken a ls b → HasTaken b ms c → HasTaken a (ls ++ ms) c
+taken_on : (a b c : Option Bytes) (ls ms : List Bytes) → HasTakenLine a ls b → HasTakenLine b ms c
+    → HasTakenLine a (ls ++ ms) c
 taken_on None b c ls ms h k = tt
 taken_on (Some x) None c ls ms h k = absurd h
 taken_on (Some x) (Some y) None ls ms h k = absurd k
 taken_on (Some x) (Some y) (Some z) ls ms h k = lines_on x y z ls ms h k
 
-pub taken_none : (a : Option Bytes) → HasTaken a [] a
+pub taken_none : (a : Option Bytes) → HasTakenLine a [] a
 taken_none None = tt
 taken_none (Some x) = refl
 
@@ -92,7 +93,7 @@ serves_on n (l ∷ ls) ms a b c s t h k = (
   serves_on (n + 1) ls ms h.1 b c h.2 t h.6 (subst (λ m. Serves m ms b t c) (omega arith) k),
 )
 
-pub served_on : (a b c : Place) → Served a b → Served b c → Served a c
+pub served_on : (a b c : ServedPlace) → Served a b → Served b c → Served a c
 served_on a b c h k = record {
   lines = h.lines ++ k.lines;
   taken = taken_on a.input b.input c.input h.lines k.lines h.taken k.taken;
@@ -103,7 +104,7 @@ served_on a b c h k = record {
   written = appends_on a.output b.output c.output h.text k.text h.written k.written;
 }
 
-pub served_none : (a : Place) → Served a a
+pub served_none : (a : ServedPlace) → Served a a
 served_none a = record {
   lines = [];
   taken = taken_none a.input;
@@ -114,7 +115,8 @@ served_none a = record {
 }
 
 -- one line more
-pub served_one : (a b : Place) (line answer : Bytes) → b.number ≡ a.number + 1 → HasTaken a.input (line ∷ []) b.input
+pub served_one : (a b : ServedPlace) (line answer : Bytes) → b.number ≡ a.number + 1
+    → HasTakenLine a.input (line ∷ []) b.input
     → Answers a.number line a.standing answer b.standing → IsLine answer → Appends a.output b.output answer → Served a b
 served_one a b line answer number taken answered one written = record {
   lines = line ∷ [];
@@ -127,7 +129,7 @@ served_one a b line answer number taken answered one written = record {
 
 -- ---- an early end
 
-pub ended_on : (a b : Place) (output : Option Bytes) → Served a b → HasEnded b output → HasEnded a output
+pub ended_on : (a b : ServedPlace) (output : Option Bytes) → Served a b → HasEnded b output → HasEnded a output
 ended_on a b output h k = record {
   last = k.last;
   served = served_on a b k.last h k.served;
@@ -136,7 +138,7 @@ ended_on a b output h k = record {
   written = k.written;
 }
 
-pub ended_here : (a : Place) → HasEnded a a.output
+pub ended_here : (a : ServedPlace) → HasEnded a a.output
 ended_here a = record {
   last = a;
   served = served_none a;
@@ -146,8 +148,8 @@ ended_here a = record {
 }
 
 -- within the answer of a line
-next_cut : (a : Place) (line : Bytes) (rest : Option Bytes) (answer : Bytes) (after : Standing) (cut : Bytes)
-    → HasTaken a.input (line ∷ []) rest → Answers a.number line a.standing answer after → IsBeginning cut answer
+next_cut : (a : ServedPlace) (line : Bytes) (rest : Option Bytes) (answer : Bytes) (after : Standing) (cut : Bytes)
+    → HasTakenLine a.input (line ∷ []) rest → Answers a.number line a.standing answer after → IsBeginning cut answer
     → (cut ≡ []) ⊎ IsCut a cut
 next_cut a line rest answer after cut taken answered (inl none) = inl none
 next_cut a line rest answer after cut taken answered (inr begins) = inr (record {
@@ -161,8 +163,8 @@ next_cut a line rest answer after cut taken answered (inr begins) = inr (record 
   begins = begins.1;
 })
 
-pub ended_within : (a : Place) (line : Bytes) (rest : Option Bytes) (answer : Bytes) (after : Standing)
-    (output : Option Bytes) → HasTaken a.input (line ∷ []) rest → Answers a.number line a.standing answer after
+pub ended_within : (a : ServedPlace) (line : Bytes) (rest : Option Bytes) (answer : Bytes) (after : Standing)
+    (output : Option Bytes) → HasTakenLine a.input (line ∷ []) rest → Answers a.number line a.standing answer after
     → WritesSome answer a.output output → HasEnded a output
 ended_within a line rest answer after output taken answered some = record {
   last = a;

@@ -6,12 +6,12 @@ use Rattle.script_runner.specs.Runs.{identity_of}
 use Rattle.script_runner.specs.Settling.{AreSteady, StaySteady}
 use Rattle.script_runner.proofs.Steady.{steady_new}
 use Rattle.script_parser.specs.Context.{Context}
-use Rattle.script_server.specs.Answers.{Opens}
+use Rattle.script_server.specs.Answers.{OpensGroup}
 use Rattle.script_server.specs.Standing.{Standing, means_in}
 use Rattle.script_server.specs.Inside.Stages.{StaysSteady, WhereWhole}
 
 -- the clients that were opened
-pub steady_opened : (before : Standing) (kept : Context) (after : Standing) → Opens before kept after
+pub steady_opened : (before : Standing) (kept : Context) (after : Standing) → OpensGroup before kept after
     → AreSteady after.players after.seen
 steady_opened before kept after opens =
     subst (AreSteady after.players) (sym opens.seen)

@@ -10,8 +10,8 @@ use Rattle.rule_mutators.specs.Reading.{rules_said}
 use Rattle.rule_mutators.specs.Rules.{Rules}
 use Rattle.script_parser.specs.declared.faults.ScriptFault.{ScriptFault}
 use Rattle.script_parser.specs.declared.faults.ScriptFault.TheVariants.{BadWords, SaidTwice}
-use Rattle.script_parser.specs.declared.script.Asked.{Asked}
-use Rattle.script_parser.specs.declared.script.Asked.TheVariants as asked
+use Rattle.script_parser.specs.declared.script.LineKind.{LineKind}
+use Rattle.script_parser.specs.declared.script.LineKind.TheVariants as asked
 use Rattle.script_parser.specs.declared.script.Line.{Line}
 use Rattle.script_parser.specs.Context.{Context, Lines}
 use Rattle.script_parser.specs.Faults.{fault_text}
@@ -21,8 +21,8 @@ use Rattle.script_parser.specs.Scripts.{line_said}
 use Rattle.script_parser.specs.Words.{more, word}
 use Rattle.script_runner.specs.Answering.{IsToldAt}
 use Rattle.script_runner.specs.Phases.{all_sights}
-use Rattle.script_runner.specs.Plain.{IsPlain}
-use Rattle.script_runner.specs.Runs.{AreNew, identity_of}
+use Rattle.script_runner.specs.Plain.{IsPlainlyTold}
+use Rattle.script_runner.specs.Runs.{AreNewPlayers, identity_of}
 use Rattle.script_server.specs.Standing.{Standing, means_in, record_in, rules_in}
 
 -- ---- the texts of answers
@@ -81,16 +81,17 @@ GivesRules (Ok rules) n before text after = (text ≡ ok_text n) × (after ≡ r
 -- ---- phases
 
 -- The first phase begins: there is a group of the rules, and a new client for each `client` line. This was said.
-pub record Opens (before : Standing) (kept : Context) (after : Standing) : Type 0 where
+pub record OpensGroup (before : Standing) (kept : Context) (after : Standing) : Type 0 where
   pub said : after.said ≡ kept
   pub rules : after.rules ≡ Some (rules_in before)
-  pub players : AreNew (means_in before) (identity_of kept.group kept.profile kept.schema) kept.clients after.players
+  pub players : AreNewPlayers (means_in before) (identity_of kept.group kept.profile kept.schema) kept.clients
+      after.players
   pub sights : after.sights ≡ all_sights after.players
   pub seen : after.seen ≡ None
 
 -- A phase begins where these have: in it clients learn what others have seen until now.
 abbrev pub BeginsPhase : List (List Lines) → Standing → Context → Standing → Type 0
-BeginsPhase [] before said after = Opens before said after
+BeginsPhase [] before said after = OpensGroup before said after
 BeginsPhase (p ∷ ps) before said after = after ≡ record before { said = said; sights = all_sights before.players }
 
 -- ---- any line
@@ -100,26 +101,27 @@ BeginsPhase (p ∷ ps) before said after = after ≡ record before { said = said
 -- is refused for want of memory, slots or stamps, and the record stays. Where the client has a reading open, the state
 -- is the one before the line that began it. `told` says of that what is printed, which cause a refusal has, what the
 -- client keeps, and of free slots how they were counted.
-pub record Tells (place : ℕ) (line : Line) (before : Standing) (said : Context) (text : Bytes)
+pub record TellsLine (place : ℕ) (line : Line) (before : Standing) (said : Context) (text : Bytes)
     (after : Standing) : Type 0
   where
     pub told : IsToldAt (means_in before) before.sights before.seen place (line_said line) before.players text
         after.players after.seen
-    pub plain : IsPlain (means_in before) line.command told.client.place told.next.place told.may.t (record_in before)
+    pub plain : IsPlainlyTold (means_in before) line.command told.client.place told.next.place told.may.t
+        (record_in before)
         after.seen
     pub left : after ≡ record before { said = said; players = after.players; seen = after.seen }
 
 -- what a line asks is done, and this was then said
-abbrev pub Does : Asked → ℕ → Standing → Context → Bytes → Standing → Type 0
+abbrev pub Does : LineKind → ℕ → Standing → Context → Bytes → Standing → Type 0
 Does asked.Nothing n before said text after = (text ≡ ok_text n) × (after ≡ record before { said = said })
 Does asked.Phase n before said text after = (text ≡ ok_text n) × BeginsPhase before.said.phases before said after
-Does (asked.Command place line) n before said text after = Tells place line before said text after
+Does (asked.Command place line) n before said text after = TellsLine place line before said text after
 
 -- A line that says something, or is faulty. A faulty one changes nothing.
 abbrev pub Says : Result Context ScriptFault → ℕ → Standing → Bytes → Standing → Type 0
 Says (Err f) n before text after = (text ≡ refused_text n (fault_text f)) × (after ≡ before)
 Says (Ok said) n before text after =
-    (what : Asked) × AsksFor n before.said what said × Does what n before (without_lines said) text after
+    (what : LineKind) × AsksFor n before.said what said × Does what n before (without_lines said) text after
 
 -- a line that gives rules, or another one
 abbrev pub AnswersBy : Option (Option Bytes) → ℕ → Bytes → Standing → Bytes → Standing → Type 0

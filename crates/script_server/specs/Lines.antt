@@ -15,7 +15,7 @@ AreLines bytes [] rest = rest ≡ bytes
 AreLines bytes (l ∷ ls) rest = (next : Bytes) × BeginsWith bytes l next × AreLines next ls rest
 
 -- the same of an input that is known, and of what is left of it
-abbrev pub HasTaken : Option Bytes → List Bytes → Option Bytes → Type 0
-HasTaken None lines rest = ⊤
-HasTaken (Some bytes) lines None = ⊥
-HasTaken (Some bytes) lines (Some rest) = AreLines bytes lines rest
+abbrev pub HasTakenLine : Option Bytes → List Bytes → Option Bytes → Type 0
+HasTakenLine None lines rest = ⊤
+HasTakenLine (Some bytes) lines None = ⊥
+HasTakenLine (Some bytes) lines (Some rest) = AreLines bytes lines rest

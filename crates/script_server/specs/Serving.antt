@@ -4,7 +4,7 @@ use Rattle.std.specs.Io.KnownBytes.{Appends, IsAtEnd}
 use mathlib.Core.List.{IsPrefix}
 use Rattle.group_history.specs.Map.{Bytes}
 use Rattle.script_server.specs.Answers.{Answers, IsLine}
-use Rattle.script_server.specs.Lines.{HasTaken}
+use Rattle.script_server.specs.Lines.{HasTakenLine}
 use Rattle.script_server.specs.Standing.{Standing, at_first}
 
 -- The lines, the first of which has this number, are answered one by one, each by one line; the text has their answers
@@ -17,16 +17,16 @@ Serves n (l ∷ ls) before text after =
 
 -- Where serving is, between two lines: how things stand, the number of the next line, what is left of the input and
 -- what the writer has, where these are known.
-pub record Place : Type 0 where
+pub record ServedPlace : Type 0 where
   pub standing : Standing
   pub number : ℕ
   pub input : Option Bytes
   pub output : Option Bytes
 
 -- from a place to another one: so many lines were taken, each was answered, and the answers were written
-pub record Served (old new : Place) : Type 0 where
+pub record Served (old new : ServedPlace) : Type 0 where
   pub lines : List Bytes
-  pub taken : HasTaken old.input lines new.input
+  pub taken : HasTakenLine old.input lines new.input
   pub number : new.number ≡ old.number + length lines
   pub text : Bytes
   pub answered : Serves old.number lines old.standing text new.standing
@@ -34,10 +34,10 @@ pub record Served (old new : Place) : Type 0 where
 
 -- A beginning of the answer to the next line, which is one line. The line was done, so the group may have changed by
 -- it.
-pub record IsCut (at : Place) (cut : Bytes) : Type 0 where
+pub record IsCut (at : ServedPlace) (cut : Bytes) : Type 0 where
   pub line : Bytes
   pub rest : Option Bytes
-  pub taken : HasTaken at.input (line ∷ []) rest
+  pub taken : HasTakenLine at.input (line ∷ []) rest
   pub answer : Bytes
   pub after : Standing
   pub answered : Answers at.number line at.standing answer after
@@ -46,20 +46,20 @@ pub record IsCut (at : Place) (cut : Bytes) : Type 0 where
 
 -- Serving ended early at the last place: of the next answer nothing was written, or a beginning. Such a line, if there
 -- was one, may have been done.
-pub record HasEnded (old : Place) (output : Option Bytes) : Type 0 where
-  pub last : Place
+pub record HasEnded (old : ServedPlace) (output : Option Bytes) : Type 0 where
+  pub last : ServedPlace
   pub served : Served old last
   pub cut : Bytes
   pub next : (cut ≡ []) ⊎ IsCut last cut
   pub written : Appends last.output output cut
 
 -- before the first line of an input
-abbrev pub beginning : Option Bytes → Option Bytes → Place
+abbrev pub beginning : Option Bytes → Option Bytes → ServedPlace
 beginning input output = record { standing = at_first; number = 1; input = input; output = output }
 
 -- all lines of the input were answered
 pub record HasServed (input old new : Option Bytes) : Type 0 where
-  pub end : Place
+  pub end : ServedPlace
   pub served : Served (beginning input old) end
   pub whole : IsAtEnd end.input
   pub output : end.output ≡ new

@@ -11,15 +11,15 @@ ghost use Rattle.script_server.specs.Inside.Stages.{AreHeads, HasTurned, IsHead,
 ghost use Rattle.script_server.specs.Inside.Stages.{place_of};
 
 use crate::printing::{print_fault, print_ok, rules_fault};
-use crate::streams::{Buffers, Stop, read_line, write_answer};
+use crate::streams::{Buffers, ServeEnd, read_line, write_answer};
 use rule_mutators::Rules;
-use script_parser::{Asked, LineFault, LineReader, ScriptFault};
+use script_parser::{LineFault, LineKind, LineReader, ScriptFault};
 use std::alloc::{AllocError, Global};
 use std::io::{BufRead, Write};
 
 /// What becomes of a line before the first phase.
 #[derive(Clone, Copy, PartialEq, Eq)]
-pub(crate) enum Head {
+pub(crate) enum HeaderLine {
     /// It is answered.
     Answered,
     /// It begins the first phase, and isn't answered yet.
@@ -28,7 +28,7 @@ pub(crate) enum Head {
 
 /// What became of a turn before the first phase.
 #[derive(Clone, Copy, PartialEq, Eq)]
-pub(crate) enum Turn {
+pub(crate) enum HeaderTurn {
     /// The input is at its end.
     Ended,
     /// The next line was answered.
@@ -87,18 +87,18 @@ fn first_word(line: &str) -> (&str, Option<&str>)
 }
 
 /// Answers a line that asks this, unless it begins the first phase.
-fn head_of(asked: Asked, number: u64, text: &mut Vec<u8>) -> Result<Head, AllocError>
+fn head_of(asked: LineKind, number: u64, text: &mut Vec<u8>) -> Result<HeaderLine, AllocError>
     requires empty { text.old.items ≡ [] }
     requires none { IsNoCommand asked }
     ensures { IfOk result (λ head. IsHeadOf asked number head text.new.items) }
 {
     match asked {
-        Asked::Nothing => {
+        LineKind::Nothing => {
             print_ok(text, number)?;
-            Ok(Head::Answered)
+            Ok(HeaderLine::Answered)
         }
-        Asked::Phase => Ok(Head::Begins),
-        Asked::Command(_, _) => unreachable!(),
+        LineKind::Phase => Ok(HeaderLine::Begins),
+        LineKind::Command(_, _) => unreachable!(),
     }
 }
 
@@ -183,7 +183,12 @@ impl Heads {
     }
 
     /// Takes a line that gives no rules.
-    fn take(&mut self, number: u64, line: &[u8], text: &mut Vec<u8>) -> Result<Head, AllocError>
+    fn take(
+        &mut self,
+        number: u64,
+        line: &[u8],
+        text: &mut Vec<u8>,
+    ) -> Result<HeaderLine, AllocError>
         requires empty { text.old.items ≡ [] }
         requires none { (heads_stand self.old).said.phases ≡ [] }
         requires other { given_in (heads_stand self.old) line.now ≡ None }
@@ -194,14 +199,19 @@ impl Heads {
             Ok(asked) => head_of(asked, number, text),
             Err(LineFault::Script(fault)) => {
                 print_fault(text, number, fault.text())?;
-                Ok(Head::Answered)
+                Ok(HeaderLine::Answered)
             }
             Err(LineFault::NoMemory) => Err(AllocError),
         }
     }
 
     /// Takes a line, and writes its answer in place of the text, unless it begins the first phase.
-    fn answer(&mut self, number: u64, line: &[u8], text: &mut Vec<u8>) -> Result<Head, AllocError>
+    fn answer(
+        &mut self,
+        number: u64,
+        line: &[u8],
+        text: &mut Vec<u8>,
+    ) -> Result<HeaderLine, AllocError>
         requires { (heads_stand self.old).said.phases ≡ [] }
         ensures { IfOk result (λ head. IsHead head number line.now (heads_stand self.old) text.new.items
             (heads_stand self.new)) }
@@ -211,7 +221,7 @@ impl Heads {
             return self.take(number, line, text);
         };
         self.give_rules(number, given, text)?;
-        Ok(Head::Answered)
+        Ok(HeaderLine::Answered)
     }
 
     /// Reads the next line and answers it.
@@ -221,7 +231,7 @@ impl Heads {
         input: &mut I,
         out: &mut W,
         buffers: &mut Buffers,
-    ) -> Result<Turn, Stop>
+    ) -> Result<HeaderTurn, ServeEnd>
         requires { (heads_stand self.old).said.phases ≡ [] }
         ensures turned { IfOk result (λ turn. HasTurned turn
             (place_of (heads_stand self.old) number (I.remaining input.old) (W.contents out.old))
@@ -231,13 +241,13 @@ impl Heads {
             (W.contents out.new)) }
     {
         if !read_line(input, &mut buffers.line)? {
-            return Ok(Turn::Ended);
+            return Ok(HeaderTurn::Ended);
         }
         match self.answer(number, &buffers.line, &mut buffers.text)? {
-            Head::Begins => Ok(Turn::Begins),
-            Head::Answered => {
+            HeaderLine::Begins => Ok(HeaderTurn::Begins),
+            HeaderLine::Answered => {
                 write_answer(out, &buffers.text)?;
-                Ok(Turn::Answered)
+                Ok(HeaderTurn::Answered)
             }
         }
     }
@@ -248,7 +258,7 @@ impl Heads {
         input: &mut I,
         out: &mut W,
         buffers: &mut Buffers,
-    ) -> Result<Option<u64>, Stop>
+    ) -> Result<Option<u64>, ServeEnd>
         requires { (heads_stand self.old).said.phases ≡ [] }
         ensures number { IfOk result (λ first. IfSome first (λ n. n < 2 ^ 64 - 1)) }
         ensures heads { IfOk result (λ first. AreHeads first
@@ -259,11 +269,11 @@ impl Heads {
     {
         for number in 1..u64::MAX {
             match self.turn(number, input, out, buffers)? {
-                Turn::Ended => return Ok(None),
-                Turn::Answered => {}
-                Turn::Begins => return Ok(Some(number)),
+                HeaderTurn::Ended => return Ok(None),
+                HeaderTurn::Answered => {}
+                HeaderTurn::Begins => return Ok(Some(number)),
             }
         }
-        Err(Stop::Read)
+        Err(ServeEnd::Read)
     }
 }

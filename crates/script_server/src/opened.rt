@@ -1,10 +1,10 @@
 //! The lines from the first phase on, which the clients of a group answer.
 ghost use Rattle.std.specs.Prelude.{◌≡◌, ◌+◌, ◌-◌, ◌^◌, ◌<◌, [], IfOk, OnErr, OnOk, length};
 ghost use Rattle.std.specs.Io.KnownBytes.{Appends};
-ghost use Rattle.script_parser.specs.declared.script.Asked.TheVariants as kind;
+ghost use Rattle.script_parser.specs.declared.script.LineKind.TheVariants as kind;
 ghost use Rattle.script_runner.specs.Settling.{AreSteady};
-ghost use Rattle.script_server.specs.Answers.{Answers, IsLine, Opens, ok_text};
-ghost use Rattle.script_server.specs.Serving.{HasEnded, Place};
+ghost use Rattle.script_server.specs.Answers.{Answers, IsLine, OpensGroup, ok_text};
+ghost use Rattle.script_server.specs.Serving.{HasEnded, ServedPlace};
 ghost use Rattle.script_server.specs.Standing.{Standing, rules_in};
 ghost use Rattle.script_server.specs.Inside.Stages.{HasAnswered, HasBegun, HasDone, IsPlaced, IsServed, IsOpen};
 ghost use Rattle.script_server.specs.Inside.Stages.{IsWholeAt, StaysSteady, WhereWhole};
@@ -13,21 +13,21 @@ ghost use Rattle.script_server.specs.Inside.Writes.{WritesSome};
 
 use crate::heads::Heads;
 use crate::printing::{print_fault, print_ok};
-use crate::streams::{Buffers, Stop, read_line, write_answer};
-use rule_mutators::{Picked, RuleMutators};
-use script_parser::{Asked, LineFault, LineReader};
+use crate::streams::{Buffers, ServeEnd, read_line, write_answer};
+use rule_mutators::{NamesRules, RuleMutators};
+use script_parser::{LineFault, LineKind, LineReader};
 use script_runner::Clients;
 use std::alloc::{AllocError, Global};
 use std::io::{BufRead, Write};
 use std::sync::Wait;
 
 /// The clients of a group whose rules `B` names.
-pub(crate) struct Opened<B: Picked + Sync + Drop> {
+pub(crate) struct Opened<B: NamesRules + Sync + Drop> {
     reader: LineReader,
     clients: Clients<RuleMutators<B>>,
 }
 
-impl<B: Picked + Sync + Drop> Drop for Opened<B> {
+impl<B: NamesRules + Sync + Drop> Drop for Opened<B> {
     fn drop(self) {
         let Opened { reader, clients } = self;
         drop(reader);
@@ -35,11 +35,11 @@ impl<B: Picked + Sync + Drop> Drop for Opened<B> {
     }
 }
 
-impl<B: Picked + Sync + Drop> Opened<B> {
+impl<B: NamesRules + Sync + Drop> Opened<B> {
     /// Opens the group and the clients that were said.
     fn open(alloc: Global, heads: Heads) -> Result<Opened<B>, AllocError>
         requires { rules_in (heads_stand heads) ≡ B.rules }
-        ensures { IfOk result (λ opened. Opens (heads_stand heads) (heads_stand heads).said
+        ensures { IfOk result (λ opened. OpensGroup (heads_stand heads) (heads_stand heads).said
             (opened_stand opened)) }
     {
         let (reader, rules) = heads.into_parts();
@@ -88,7 +88,7 @@ impl<B: Picked + Sync + Drop> Opened<B> {
         &mut self,
         rt: &R,
         number: u64,
-        asked: Asked,
+        asked: LineKind,
         text: &mut Vec<u8>,
     ) -> Result<(), AllocError>
         requires empty { text.old.items ≡ [] }
@@ -100,9 +100,9 @@ impl<B: Picked + Sync + Drop> Opened<B> {
         ensures steady { StaysSteady (opened_stand self.old) (opened_stand self.new) }
     {
         match asked {
-            Asked::Nothing => print_ok(text, number),
-            Asked::Phase => self.begin_phase(number, text),
-            Asked::Command(place, line) => self.clients.tell(rt, place, &line, text),
+            LineKind::Nothing => print_ok(text, number),
+            LineKind::Phase => self.begin_phase(number, text),
+            LineKind::Command(place, line) => self.clients.tell(rt, place, &line, text),
         }
     }
 
@@ -114,7 +114,7 @@ impl<B: Picked + Sync + Drop> Opened<B> {
         input: &mut I,
         out: &mut W,
         buffers: &mut Buffers,
-    ) -> Result<bool, Stop>
+    ) -> Result<bool, ServeEnd>
         requires { IsOpen (opened_stand self.old) }
         ensures turned { IfOk result (λ is. HasAnswered is
             (place_of (opened_stand self.old) number (I.remaining input.old) (W.contents out.old))
@@ -140,7 +140,7 @@ impl<B: Picked + Sync + Drop> Opened<B> {
         input: &mut I,
         out: &mut W,
         buffers: &mut Buffers,
-    ) -> Result<(), Stop>
+    ) -> Result<(), ServeEnd>
         requires { IsOpen (opened_stand self.old) }
         ensures served { OnOk result (WhereWhole (opened_stand self.old) (opened_stand self.new) (IsServed
             (place_of (opened_stand self.old) first (I.remaining input.old) (W.contents out.old))
@@ -155,7 +155,7 @@ impl<B: Picked + Sync + Drop> Opened<B> {
                 return Ok(());
             }
         }
-        Err(Stop::Read)
+        Err(ServeEnd::Read)
     }
 
     /// Answers the line of this number, which began the first phase, and those after it to the end of the input.
@@ -166,17 +166,17 @@ impl<B: Picked + Sync + Drop> Opened<B> {
         input: &mut I,
         out: &mut W,
         buffers: &mut Buffers,
-    ) -> Result<(), Stop>
+    ) -> Result<(), ServeEnd>
         requires there { IsOpen (opened_stand self.old) }
         requires number { number < 2 ^ 64 - 1 }
-        ensures served { (old : Place) (before : Standing)
+        ensures served { (old : ServedPlace) (before : Standing)
             → HasBegun old (place_of before number (I.remaining input.old) (W.contents out.old))
-            → Opens before before.said (opened_stand self.old)
+            → OpensGroup before before.said (opened_stand self.old)
             → OnOk result (WhereWhole (opened_stand self.old) (opened_stand self.new)
             (IsServed old (W.contents out.new))) }
-        ensures ended { (old : Place) (before : Standing)
+        ensures ended { (old : ServedPlace) (before : Standing)
             → HasBegun old (place_of before number (I.remaining input.old) (W.contents out.old))
-            → Opens before before.said (opened_stand self.old)
+            → OpensGroup before before.said (opened_stand self.old)
             → OnErr result (WhereWhole (opened_stand self.old) (opened_stand self.new)
             (HasEnded old (W.contents out.new))) }
         ensures steady { StaysSteady (opened_stand self.old) (opened_stand self.new) }
@@ -197,7 +197,7 @@ impl<B: Picked + Sync + Drop> Opened<B> {
 }
 
 /// Answers the line of this number, which began the first phase.
-fn answer_first<W: Write>(number: u64, out: &mut W, text: &mut Vec<u8>) -> Result<(), Stop>
+fn answer_first<W: Write>(number: u64, out: &mut W, text: &mut Vec<u8>) -> Result<(), ServeEnd>
     ensures line { OnOk result (IsLine (ok_text number)) }
     ensures whole { OnOk result (Appends (W.contents out.old) (W.contents out.new) (ok_text number)) }
     ensures cut { OnErr result (WritesSome (ok_text number) (W.contents out.old) (W.contents out.new)) }
@@ -209,21 +209,26 @@ fn answer_first<W: Write>(number: u64, out: &mut W, text: &mut Vec<u8>) -> Resul
 
 /// Opens the group of the rules that `B` names, which the line of this number asks for, and answers that line and those
 /// after it to the end of the input.
-pub(crate) fn serve_phases<R: AllocGlobal + Wait, I: BufRead, W: Write, B: Picked + Sync + Drop>(
+pub(crate) fn serve_phases<
+    R: AllocGlobal + Wait,
+    I: BufRead,
+    W: Write,
+    B: NamesRules + Sync + Drop,
+>(
     rt: &R,
     heads: Heads,
     number: u64,
     input: &mut I,
     out: &mut W,
     buffers: &mut Buffers,
-) -> Result<(), Stop>
+) -> Result<(), ServeEnd>
     requires rules { rules_in (heads_stand heads) ≡ B.rules }
     requires phase { 0 < length (heads_stand heads).said.phases }
     requires number { number < 2 ^ 64 - 1 }
-    ensures served { (old : Place) → HasBegun old
+    ensures served { (old : ServedPlace) → HasBegun old
         (place_of (heads_stand heads) number (I.remaining input.old) (W.contents out.old))
         → OnOk result (IsServed old (W.contents out.new)) }
-    ensures ended { (old : Place) → HasBegun old
+    ensures ended { (old : ServedPlace) → HasBegun old
         (place_of (heads_stand heads) number (I.remaining input.old) (W.contents out.old))
         → OnErr result (HasEnded old (W.contents out.new)) }
 {

@@ -4,7 +4,7 @@ ghost use Rattle.script_server.specs.Serving.{HasServed, HasServedSome};
 
 use crate::heads::Heads;
 use crate::opened::serve_phases;
-use crate::streams::{Buffers, Stop};
+use crate::streams::{Buffers, ServeEnd};
 use std::io::{BufRead, BufReader, Read, Write};
 use std::marker::Brand;
 use std::sync::Wait;
@@ -15,7 +15,7 @@ fn serve<R: AllocGlobal + Wait, I: BufRead, W: Write>(
     input: &mut I,
     out: &mut W,
     buffers: &mut Buffers,
-) -> Result<(), Stop>
+) -> Result<(), ServeEnd>
     ensures served { OnOk result (HasServed (I.remaining input.old) (W.contents out.old) (W.contents out.new)) }
     ensures ended { OnErr result (HasServedSome (I.remaining input.old) (W.contents out.old) (W.contents out.new)) }
 {
@@ -31,12 +31,12 @@ fn serve_input<R: AllocGlobal + Wait, I: Read + Drop, W: Write>(
     rt: &R,
     input: I,
     out: &mut W,
-) -> Result<(), Stop>
+) -> Result<(), ServeEnd>
     ensures served { OnOk result (HasServed (I.remaining input) (W.contents out.old) (W.contents out.new)) }
     ensures ended { OnErr result (HasServedSome (I.remaining input) (W.contents out.old) (W.contents out.new)) }
 {
     let Ok(mut input) = BufReader::new(rt.alloc(), input) else {
-        return Err(Stop::NoMemory);
+        return Err(ServeEnd::NoMemory);
     };
     let mut buffers = Buffers::new(rt.alloc());
     serve(rt, &mut input, out, &mut buffers)

@@ -14,7 +14,7 @@ use thiserror::Error;
 
 /// Why serving ended before its input did.
 #[derive(Clone, Copy, Debug, PartialEq, Eq, Error)]
-pub(crate) enum Stop {
+pub(crate) enum ServeEnd {
     #[error("no memory")]
     NoMemory,
     #[error("read failed")]
@@ -23,9 +23,9 @@ pub(crate) enum Stop {
     Write,
 }
 
-impl From<AllocError> for Stop {
-    fn from(_refused: AllocError) -> Stop {
-        Stop::NoMemory
+impl From<AllocError> for ServeEnd {
+    fn from(_refused: AllocError) -> ServeEnd {
+        ServeEnd::NoMemory
     }
 }
 
@@ -46,16 +46,16 @@ impl Buffers {
 }
 
 /// Why a read failed.
-fn unread(error: &io::Error) -> Stop {
+fn unread(error: &io::Error) -> ServeEnd {
     if error.kind() == ErrorKind::OutOfMemory {
-        Stop::NoMemory
+        ServeEnd::NoMemory
     } else {
-        Stop::Read
+        ServeEnd::Read
     }
 }
 
 /// Reads the next line in place of the one before, without its line feed. False where the input is at its end.
-pub(crate) fn read_line<I: BufRead>(input: &mut I, line: &mut Vec<u8>) -> Result<bool, Stop>
+pub(crate) fn read_line<I: BufRead>(input: &mut I, line: &mut Vec<u8>) -> Result<bool, ServeEnd>
     ensures { IfOk result (λ is. HasRead (I.remaining input.old) is line.new.items (I.remaining input.new)) }
 {
     line.clear();
@@ -90,19 +90,19 @@ fn is_line(text: &[u8]) -> bool
 
 /// Writes an answer that is one line, and flushes the writer. Where the writer fails a beginning of the answer was
 /// written, maybe none. No text that isn't one line is written.
-pub(crate) fn write_answer<W: Write>(out: &mut W, text: &[u8]) -> Result<(), Stop>
+pub(crate) fn write_answer<W: Write>(out: &mut W, text: &[u8]) -> Result<(), ServeEnd>
     ensures line { OnOk result (IsLine text.now) }
     ensures whole { OnOk result (Appends (W.contents out.old) (W.contents out.new) text.now) }
     ensures cut { OnErr result (WritesSome text.now (W.contents out.old) (W.contents out.new)) }
 {
     if !is_line(text) {
-        return Err(Stop::Write);
+        return Err(ServeEnd::Write);
     }
     write_text(out, text)
 }
 
 /// Writes a text, and flushes the writer. Where the writer fails a beginning of the text was written, maybe none.
-fn write_text<W: Write>(out: &mut W, text: &[u8]) -> Result<(), Stop>
+fn write_text<W: Write>(out: &mut W, text: &[u8]) -> Result<(), ServeEnd>
     ensures whole { OnOk result (Appends (W.contents out.old) (W.contents out.new) text.now) }
     ensures cut { OnErr result ((cut : Bytes) × IsPrefix cut text.now
         × Appends (W.contents out.old) (W.contents out.new) cut) }
@@ -114,33 +114,33 @@ fn write_text<W: Write>(out: &mut W, text: &[u8]) -> Result<(), Stop>
         }
         done += write_some(out, &text[done..])?;
     }
-    Err(Stop::Write)
+    Err(ServeEnd::Write)
 }
 
 /// Writes a beginning of a text, and answers how long it is; it is empty where a signal came.
-fn write_some<W: Write>(out: &mut W, text: &[u8]) -> Result<usize, Stop>
+fn write_some<W: Write>(out: &mut W, text: &[u8]) -> Result<usize, ServeEnd>
     ensures within { IfOk result (λ n. n ≤ length text.now) }
     ensures some { IfOk result (λ n. Appends (W.contents out.old) (W.contents out.new) (take n text.now)) }
     ensures none { OnErr result (Keeps (W.contents out.old) (W.contents out.new)) }
 {
     match out.write(text) {
-        Ok(0) => Err(Stop::Write),
+        Ok(0) => Err(ServeEnd::Write),
         Ok(count) => Ok(count),
         Err(error) => {
             if error.kind() == ErrorKind::Interrupted {
                 Ok(0)
             } else {
-                Err(Stop::Write)
+                Err(ServeEnd::Write)
             }
         }
     }
 }
 
-fn flush<W: Write>(out: &mut W) -> Result<(), Stop>
+fn flush<W: Write>(out: &mut W) -> Result<(), ServeEnd>
     ensures { Keeps (W.contents out.old) (W.contents out.new) }
 {
     if out.flush().is_err() {
-        return Err(Stop::Write);
+        return Err(ServeEnd::Write);
     }
     Ok(())
 }

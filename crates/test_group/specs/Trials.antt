@@ -15,7 +15,7 @@ use Rattle.group_history.specs.State.{opening}
 use Rattle.head_word.specs.declared.entry.Entry.{Entry}
 use Rattle.group_history.specs.Spelling.{Spells}
 use Rattle.chunk_slots.specs.Seats.{IsIdle}
-use Rattle.commit_graph.specs.Seats.{GroupId, Seated, IsSeatOf}
+use Rattle.commit_graph.specs.Seats.{GroupId, SeatState, IsSeatOf}
 use Rattle.head_word.specs.Books.{drawn}
 
 abbrev pub no_mutators : Meanings
@@ -36,5 +36,5 @@ abbrev pub SpellsBare : List Entry → ℕ → Cookie → Type 0
 SpellsBare log stamp cookie = Spells no_mutators (drawn log) stamp (after_change opening (bare_pull cookie))
 
 -- seats of this group, which where slots are used again have no pin and no taken slot
-abbrev pub AreFreeSeatsOf : Type 0 → GroupId → List Seated → Type 0
+abbrev pub AreFreeSeatsOf : Type 0 → GroupId → List SeatState → Type 0
 AreFreeSeatsOf reused group seats = All (λ seat. IsSeatOf group seat × (reused → IsIdle seat.view)) seats

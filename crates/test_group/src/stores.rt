@@ -10,11 +10,11 @@ ghost use Rattle.test_group.specs.Trials.{AreFreeSeatsOf, no_mutators};
 
 use crate::bare::{Nobody, empty_leaf};
 use chunk_slots::{Store, StoreStop};
-use commit_graph::{Seat, Shared};
+use commit_graph::{ClientSeat, Shared};
+use commit_publishing::place_draft;
 use group_history::{Chunk, Node, Ref, Refusal};
 use head_word::Mark;
 use map_chunks::Draft;
-use publishing::place_draft;
 use reader_claims::Kind;
 use std::alloc::Global;
 
@@ -23,7 +23,7 @@ fn add_seat<S: Store<Nobody>>(
     shared: &Shared<Nobody, S>,
     claimed: &mut Vec<S::Seat>,
     marks: &mut Vec<Mark<Nobody>>,
-    seats: &mut Vec<Seat<Nobody, S>>,
+    seats: &mut Vec<ClientSeat<Nobody, S>>,
 ) -> Result<(), Refusal>
     requires claimed { All (λ seat. (S.home seat ≡ shared.now.table) × (S.reused → IsIdle (S.view seat)))
         claimed.old.items }
@@ -36,7 +36,7 @@ fn add_seat<S: Store<Nobody>>(
 {
     let slots = claimed.pop().ok_or(Refusal::NoSeat)?;
     let mark = marks.pop().ok_or(Refusal::NoSeat)?;
-    seats.push(Seat { slots, mark })?;
+    seats.push(ClientSeat { slots, mark })?;
     Ok(())
 }
 
@@ -45,7 +45,7 @@ fn seats_of<S: Store<Nobody>>(
     shared: &Shared<Nobody, S>,
     claimed: Vec<S::Seat>,
     marks: Vec<Mark<Nobody>>,
-) -> Result<Vec<Seat<Nobody, S>>, Refusal>
+) -> Result<Vec<ClientSeat<Nobody, S>>, Refusal>
     requires claimed { All (λ seat. (S.home seat ≡ shared.now.table) × (S.reused → IsIdle (S.view seat)))
         claimed.items }
     requires marks { All (HasSeat shared.now.book) marks.items }
@@ -65,7 +65,7 @@ pub fn opened_store<S: Store<Nobody> + Drop>(
     parts: S::Parts,
     slots: u32,
     seats: u32,
-) -> Result<(Shared<Nobody, S>, Vec<Seat<Nobody, S>>), Refusal>
+) -> Result<(Shared<Nobody, S>, Vec<ClientSeat<Nobody, S>>), Refusal>
     requires slots { (16 ≤ slots) × (slots ≤ max_slots) }
     requires seats { (1 ≤ seats) × (seats ≤ max_seats) }
     ensures { IfOk result (λ made. AreFreeSeatsOf S.reused made.0 made.1.items) }
@@ -80,7 +80,7 @@ pub fn opened_store<S: Store<Nobody> + Drop>(
 #[derive(Drop)]
 pub struct Place<'a, S: Store<Nobody>> {
     pub shared: &'a Shared<Nobody, S>,
-    pub seat: Seat<Nobody, S>,
+    pub seat: ClientSeat<Nobody, S>,
     ghost home: { IsSeatOf shared.now seat },
     ghost idle: { S.reused → seat.view.taken ≡ [] },
 }
@@ -88,7 +88,7 @@ pub struct Place<'a, S: Store<Nobody>> {
 /// A place for the next seat.
 pub fn next_place<'a, S: Store<Nobody>>(
     shared: &'a Shared<Nobody, S>,
-    seats: &mut Vec<Seat<Nobody, S>>,
+    seats: &mut Vec<ClientSeat<Nobody, S>>,
 ) -> Result<Place<'a, S>, Refusal>
     requires { AreFreeSeatsOf S.reused shared.now seats.old.items }
     ensures { AreFreeSeatsOf S.reused shared.now seats.new.items }
@@ -100,7 +100,7 @@ pub fn next_place<'a, S: Store<Nobody>>(
 // Adds a place for the next seat.
 fn add_place<'a, S: Store<Nobody>>(
     shared: &'a Shared<Nobody, S>,
-    seats: &mut Vec<Seat<Nobody, S>>,
+    seats: &mut Vec<ClientSeat<Nobody, S>>,
     places: &mut Vec<Place<'a, S>>,
 ) -> Result<(), Refusal>
     requires { AreFreeSeatsOf S.reused shared.now seats.old.items }
@@ -115,7 +115,7 @@ fn add_place<'a, S: Store<Nobody>>(
 pub fn places_of<'a, S: Store<Nobody>>(
     alloc: Global,
     shared: &'a Shared<Nobody, S>,
-    seats: &mut Vec<Seat<Nobody, S>>,
+    seats: &mut Vec<ClientSeat<Nobody, S>>,
 ) -> Result<Vec<Place<'a, S>>, Refusal>
     requires { AreFreeSeatsOf S.reused shared.now seats.old.items }
 {

@@ -1,5 +1,5 @@
-//! The mutators of a to-do list, over `group_history` alone: so they are proved in minutes, whatever the crates above it
-//! are at, and any program may name them.
+//! The mutators of a to-do list, over `group_history` alone: so they are proved in minutes, whatever the crates above
+//! it are at, and any program may name them.
 //!
 //! What each means is `specs/Todos.antt`. Nothing is proved by hand.
 #![tactic(auto)]

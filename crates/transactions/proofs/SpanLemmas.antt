@@ -1,6 +1,7 @@
 -- Which rows are whose, where rows were taken again.
 use Rattle.std.proofs.Common.{◌≡◌, ◌≤◌, ◌+◌, ◌-◌, ◌⊎◌, inl, inr, ℕ, zero, suc, List, [], ◌∷◌, ◌++◌, Option, Some, None}
-use Rattle.std.proofs.Common.{length, take, drop, slice_set, ap, sym, subst, ◌∙◌, arith, length-append}
+use Rattle.std.proofs.Common.{length, length-take, take, drop, slice_set, ap, refl, sym, subst, ◌∙◌, arith}
+use Rattle.std.proofs.Common.{length-append}
 use Rattle.std.proofs.Math.Seq.{drop-append-add, drop-append_seam, take-length}
 use Rattle.std.proofs.lemmas.List.{drop-append-le, drop-drop, drop-take, length-drop, length-take-le, take-append-le}
 use Rattle.std.proofs.lemmas.List.{take-take}
@@ -10,12 +11,14 @@ use mathlib.Core.List.{IsPrefix}
 use Rattle.group_history.proofs.Lists.{cons_cases, first_here, later_here, no_element}
 use Rattle.group_history.specs.declared.scans.Scan.{Scan}
 use Rattle.group_history.specs.Rows.{Rows}
+use Rattle.group_history.specs.Scans.{limited}
 use Rattle.group_history.specs.Spelling.{Contents}
-use Rattle.map_chunks.specs.Scanning.{scanned}
+use Rattle.map_chunks.specs.Inside.Scanning.{CanTake}
+use Rattle.map_chunks.specs.Scanning.{Took, left, scanned, taken}
 use Rattle.map_chunks.specs.Shown.{chunk_rows}
-use Rattle.map_chunks.specs.Sinks.{HasMore}
 use Rattle.map_chunks.proofs.JoinLemmas.{some_is}
 use Rattle.map_chunks.proofs.ScanLemmas.{chunk_rows-kept}
+use Rattle.map_chunks.proofs.TakenLemmas.{take-all}
 use Rattle.transactions.specs.Rescans.{Found, HasFound, IsRescanned}
 use Rattle.transactions.specs.Spans.{AreSpans, IsMoved, IsSpan, LiesIn, rows_in}
 use Rattle.transactions.specs.declared.again.Rescanned.{Rescanned}
@@ -29,6 +32,21 @@ set_cases (z ∷ xs) (suc i) y x h = elim (cons_cases z (slice_set xs i y) x h) 
   | inl e ↦ inl (subst (λ w. Contains (z ∷ xs) w) e (first_here z xs))
   | inr q ↦ elim (set_cases xs i y x q) [ inl p ↦ inl (later_here z xs x p) | inr e ↦ inr e ]
 ]
+
+-- ROOM FOR ROWS
+
+-- where there is room for all of the rows, all are taken
+limited-fits : (room : Option ℕ) (rows : Rows) → CanTake room (length rows) → limited room rows ≡ rows
+limited-fits None rows fits = refl
+limited-fits (Some n) rows fits = take-all n rows fits
+
+-- and so they were where there is room for one more
+limited-all : (room after : Option ℕ) (rows : Rows) → after ≡ left room (length (limited room rows))
+    → CanTake after 1 → limited room rows ≡ rows
+limited-all None after rows is more = refl
+limited-all (Some n) after rows is more =
+    let one : 1 ≤ n - length (take n rows) = subst (λ (r : Option ℕ). CanTake r 1) is more in
+    take-all n rows (omega (arith, one, length-take n rows))
 
 -- SPANS WHERE MORE IS KNOWN, AND MORE ROWS
 
@@ -96,34 +114,41 @@ span_moved scan contents told rows known kept whole s end k are sub inside e mov
       has = one.has ∙ part_behind rows told whole t moved.rest end inside moved.lies e;
     })
 
--- the rows of a chunk that was met before are those of its span
+-- the rows of a chunk that was met before are those of its span, where there is room for them
 pub kept_more : (scan : Scan) (contents : Contents) (told : Rows) (known kept : List Span) (span : Span) (stamp : ℕ)
     (here : Rows) (old new : Found) → AreSpans scan contents told known → Contains known span → span.stamp ≡ Some stamp
     → ((s : Span) → Contains kept s → Contains known s) → chunk_rows contents stamp ≡ Some here
-    → new.rows ≡ old.rows ++ rows_in told span
+    → CanTake old.room span.count → new.rows ≡ old.rows ++ rows_in told span → new.room ≡ left old.room span.count
     → ((s : Span) → Contains new.spans s → Contains old.spans s ⊎ IsMoved kept span (length new.rows) s)
-    → HasMore (HasFound scan contents) old new (scanned scan here)
-kept_more scan contents told known kept span stamp here old new are met is sub shown taken cases rows h =
+    → Took (HasFound scan contents) old new old.room new.room (taken scan old.room here)
+kept_more scan contents told known kept span stamp here old new are met is sub shown fits now less cases =
     let one = are span met stamp is in
     let same : one.chunk ≡ here = some_is (sym one.known ∙ shown) in
     let has : rows_in told span ≡ scanned scan here = sym one.has ∙ ap (scanned scan) same in
-    let now : new.rows ≡ rows ++ rows_in told span = taken ∙ ap (λ w. w ++ rows_in told span) h.taken in
     let long : length (rows_in told span) ≡ span.count = length-take-le span.count (drop span.from told)
     (omega (arith, one.inside, length-drop span.from told)) in
-    let end : length new.rows ≡ length rows + span.count = ap length now ∙ length-append rows (rows_in told span)
-    ∙ ap (λ n. length rows + n) long in
-    subst (λ w. HasFound scan contents new (rows ++ w)) has (record {
-      taken = now;
-      spans = λ s in_new k own. elim (cases s in_new) [
-        | inl p ↦ span_more scan contents rows (rows_in told span) k s (h.spans s p k own)
-        | inr q ↦ span_moved scan contents told rows known kept span s (length new.rows) k are sub one.inside end q own
-      ];
+    let all : taken scan old.room here ≡ rows_in told span = limited-fits old.room (scanned scan here)
+    (subst (CanTake old.room) (sym long ∙ ap length has) fits) ∙ sym has in
+    subst (Took (HasFound scan contents) old new old.room new.room) (sym all) (record {
+      rows = λ rows h.
+          let more : new.rows ≡ rows ++ rows_in told span = now ∙ ap (λ w. w ++ rows_in told span) h.taken in
+          let end : length new.rows ≡ length rows + span.count = ap length more
+          ∙ length-append rows (rows_in told span) ∙ ap (λ n. length rows + n) long in
+          record {
+            taken = more;
+            spans = λ s in_new k own. elim (cases s in_new) [
+              | inl p ↦ span_more scan contents rows (rows_in told span) k s (h.spans s p k own)
+              | inr q ↦ span_moved scan contents told rows known kept span s (length new.rows) k are sub one.inside end
+                  q own
+            ];
+          };
+      room = less ∙ ap (left old.room) (sym long);
     })
 
 -- ROWS OF A CHUNK THAT IS SHOWN
 
 -- a span of no chunk says nothing
-pub found_begun : (scan : Scan) (contents : Contents) (old new : Found) (rows : Rows) → new.rows ≡ old.rows
+found_begun : (scan : Scan) (contents : Contents) (old new : Found) (rows : Rows) → new.rows ≡ old.rows
     → ((s : Span) → Contains new.spans s → Contains old.spans s ⊎ (s.stamp ≡ None)) → HasFound scan contents old rows
     → HasFound scan contents new rows
 found_begun scan contents old new rows same cases h = record {
@@ -143,42 +168,63 @@ last_rows rows more s from count =
     ∙ ap (λ (i : ℕ). take (length more) (drop i (rows ++ more))) from
     ∙ ap (take (length more)) (drop-append_seam rows more) ∙ take-length more)
 
--- and the span of a chunk says that its rows are those that were taken since
-pub found_ended : (scan : Scan) (contents : Contents) (stamp from : ℕ) (here rows : Rows) (mid new : Found)
-    → chunk_rows contents stamp ≡ Some here → from ≡ length rows → new.rows ≡ mid.rows
-    → ((s : Span) → Contains new.spans s → Contains mid.spans s
-    ⊎ ((s.stamp ≡ Some stamp) × (s.from ≡ from) × (s.count ≡ length mid.rows - from)))
-    → HasFound scan contents mid (rows ++ scanned scan here) → HasFound scan contents new (rows ++ scanned scan here)
-found_ended scan contents stamp from here rows mid new shown begun same cases h =
-    let more = scanned scan here in
+-- and the span of a chunk says that its rows are those that were taken since, where all were
+found_ended : (scan : Scan) (contents : Contents) (stamp from : ℕ) (here rows more : Rows) (mid new : Found)
+    → chunk_rows contents stamp ≡ Some here → (CanTake mid.room 1 → more ≡ scanned scan here) → from ≡ length rows
+    → new.rows ≡ mid.rows → ((s : Span) → Contains new.spans s → Contains mid.spans s
+    ⊎ ((s.stamp ≡ Some stamp) × (s.from ≡ from) × (s.count ≡ length mid.rows - from) × CanTake mid.room 1))
+    → HasFound scan contents mid (rows ++ more) → HasFound scan contents new (rows ++ more)
+found_ended scan contents stamp from here rows more mid new shown all begun same cases h = record {
+  taken = same ∙ h.taken;
+  spans = λ s in_new k own. elim (cases s in_new) [
+    | inl p ↦ h.spans s p k own
+    | inr q ↦ (
+        let one : stamp ≡ k = some_is (sym q.0 ∙ own) in
+        let count : s.count ≡ length (rows ++ more) - s.from = q.2 ∙ ap (λ (w : Rows). length w - from) h.taken
+        ∙ ap (λ (n : ℕ). length (rows ++ more) - n) (sym q.1) in
+        record {
+          chunk = here;
+          known = subst (λ (n : ℕ). chunk_rows contents n ≡ Some here) one shown;
+          inside = omega (arith, count, q.1, begun, length-append rows more);
+          has = sym (all q.3) ∙ last_rows rows more s (q.1 ∙ begun) count;
+        }
+        )
+  ];
+}
+
+-- a chunk's rows, as many as there is room for, between the beginning and the end of its span
+pub shown_more : (scan : Scan) (contents : Contents) (stamp from : ℕ) (here : Rows) (old begun mid new : Found)
+    → chunk_rows contents stamp ≡ Some here → from ≡ length old.rows → begun.rows ≡ old.rows → begun.room ≡ old.room
+    → ((s : Span) → Contains begun.spans s → Contains old.spans s ⊎ (s.stamp ≡ None))
+    → Took (HasFound scan contents) begun mid begun.room mid.room (taken scan begun.room here)
+    → new.rows ≡ mid.rows → new.room ≡ mid.room → ((s : Span) → Contains new.spans s → Contains mid.spans s
+    ⊎ ((s.stamp ≡ Some stamp) × (s.from ≡ from) × (s.count ≡ length mid.rows - from) × CanTake mid.room 1))
+    → Took (HasFound scan contents) old new old.room new.room (taken scan old.room here)
+shown_more scan contents stamp from here old begun mid new shown at still room none more same end cases =
+    let took = subst (λ (r : Option ℕ). Took (HasFound scan contents) begun mid r mid.room (taken scan r here)) room
+    more in
     record {
-      taken = same ∙ h.taken;
-      spans = λ s in_new k own. elim (cases s in_new) [
-        | inl p ↦ h.spans s p k own
-        | inr q ↦ (
-            let one : stamp ≡ k = some_is (sym q.0 ∙ own) in
-            let count : s.count ≡ length (rows ++ more) - s.from = q.2 ∙ ap (λ (w : Rows). length w - from) h.taken
-            ∙ ap (λ (n : ℕ). length (rows ++ more) - n) (sym q.1) in
-            record {
-              chunk = here;
-              known = subst (λ (n : ℕ). chunk_rows contents n ≡ Some here) one shown;
-              inside = omega (arith, count, q.1, begun, length-append rows more);
-              has = last_rows rows more s (q.1 ∙ begun) count;
-            }
-            )
-      ];
+      rows = λ rows h. found_ended scan contents stamp from here rows (taken scan old.room here) mid new shown
+          (limited-all old.room mid.room (scanned scan here) took.room) (at ∙ ap length h.taken) same cases
+          (took.rows rows (found_begun scan contents old begun rows still none h));
+      room = end ∙ took.room;
     }
 
 -- a leaf's rows, which are taken with no span of their own
 pub leaf_more : (scan : Scan) (contents : Contents) (leaf here : Rows) (old new : Found) → here ≡ leaf
-    → new.rows ≡ old.rows ++ scanned scan leaf → new.spans ≡ old.spans
-    → HasMore (HasFound scan contents) old new (scanned scan here)
-leaf_more scan contents leaf here old new is taken same rows h = record {
-  taken = taken ∙ ap (λ (w : Rows). w ++ scanned scan leaf) h.taken
-      ∙ ap (λ (w : Rows). rows ++ scanned scan w) (sym is);
-  spans = λ s in_new k own. span_more scan contents rows (scanned scan here) k s
-      (h.spans s (subst (λ (ss : List Span). Contains ss s) same in_new) k own);
-}
+    → new.rows ≡ old.rows ++ taken scan old.room leaf → new.room ≡ left old.room (length (taken scan old.room leaf))
+    → new.spans ≡ old.spans → Took (HasFound scan contents) old new old.room new.room (taken scan old.room here)
+leaf_more scan contents leaf here old new is now room same =
+    subst (λ (w : Rows). Took (HasFound scan contents) old new old.room new.room (taken scan old.room w)) (sym is)
+    (record {
+      rows = λ rows h.
+          record {
+            taken = now ∙ ap (λ (w : Rows). w ++ taken scan old.room leaf) h.taken;
+            spans = λ s in_new k own. span_more scan contents rows (taken scan old.room leaf) k s
+                (h.spans s (subst (λ (ss : List Span). Contains ss s) same in_new) k own);
+          };
+      room = room;
+    })
 
 -- WHAT IS ANSWERED
 
@@ -191,9 +237,9 @@ if_none None f h = f h
 if_none (Some x) f h = h
 
 -- nothing was found of no rows
-pub found_none : (scan : Scan) (contents : Contents) (found : Found) → found ≡ record { rows = []; spans = [] }
-    → HasFound scan contents found []
-found_none scan contents found is = record {
+pub found_none : (scan : Scan) (contents : Contents) (room : Option ℕ) (found : Found)
+    → found ≡ record { rows = []; spans = []; room = room } → HasFound scan contents found []
+found_none scan contents room found is = record {
   taken = ap (λ (f : Found). f.rows) is;
   spans = λ s met. absurd (no_element s (subst (λ (f : Found). Contains f.spans s) is met));
 }

@@ -18,7 +18,7 @@ pub(crate) enum CollectedRows {
 }
 
 /// Names the rows of before. A call picks them.
-pub trait PreviousRows {
+pub(crate) trait PreviousRows {
     ghost rows: { Rows };
 }
 
@@ -28,7 +28,7 @@ impl PreviousRows for Brand {
 
 /// Takes rows beside those of before, which `B` names.
 #[derive(Drop)]
-pub struct RowDiff<'a, B: PreviousRows> {
+pub(crate) struct RowDiff<'a, B: PreviousRows> {
     alloc: Global,
     before: &'a [(Text, Json)],
     taken: CollectedRows,
@@ -37,8 +37,8 @@ pub struct RowDiff<'a, B: PreviousRows> {
 }
 
 impl<'a, B: PreviousRows> RowDiff<'a, B> {
-    /// No row was taken yet.
-    pub fn new(alloc: Global, before: &'a [(Text, Json)]) -> RowDiff<'a, B>
+    // No row was taken yet.
+    pub(crate) fn new(alloc: Global, before: &'a [(Text, Json)]) -> RowDiff<'a, B>
         requires { before.now ≡ B.rows }
         ensures { ⟦<RowDiff<'a, B> as TakesRows>⟧.has result [] }
     {
@@ -119,8 +119,8 @@ impl<'a, B: PreviousRows> RowDiff<'a, B> {
         Ok(())
     }
 
-    /// The rows that were taken, if they aren't those of before.
-    pub fn into_others(self) -> Result<Option<Vec<(Text, Json)>>, AllocError>
+    // The rows that were taken, if they aren't those of before.
+    pub(crate) fn into_others(self) -> Result<Option<Vec<(Text, Json)>>, AllocError>
         ensures others { (taken : Rows) → ⟦<RowDiff<'a, B> as TakesRows>⟧.has self.entry taken
             → IfOk result (λ found. IfSome found (λ rows. rows.items ≡ taken)) }
         ensures same { (taken : Rows) → ⟦<RowDiff<'a, B> as TakesRows>⟧.has self.entry taken

@@ -20,7 +20,6 @@ mod staged;
 mod writing;
 
 pub use again::Rescanned;
-pub use beside::{PreviousRows, RowDiff};
 pub use fixed::{Fixed, NamesContents};
 pub use map_tree::TakesRows;
 pub use reading::ReadTx;

@@ -155,8 +155,8 @@ impl<N: Nodes> ReadTx<N> {
         cover_placed(self.alloc, &mut self.nodes, self.root, scan)
     }
 
-    /// Takes the rows that the scan asks for, its limit aside, beside those of before, of which these spans are known.
-    /// Only chunks are read that have no span.
+    /// Takes the rows that the scan asks for beside those of before, of which these spans are known. Only chunks are
+    /// read that have no span, or more rows than the limit lets in.
     pub fn scan_again(
         &mut self,
         scan: &Scan,
@@ -165,7 +165,7 @@ impl<N: Nodes> ReadTx<N> {
     ) -> Result<Rescanned, Stop>
         ensures found { IfOk result (λ found. (all : Contents) → IsPrefix self.old.contents all
             → AreSpans scan.now all before.now known.now → IsRescanned scan.now all before.now
-            (scanned scan.now (finite.entries self.old.version.read)) found) }
+            (rows_of scan.now self.old.version.read) found) }
         ensures same { self.new.version ≡ self.old.version }
         ensures grown { IsPrefix self.old.contents self.new.contents }
         ensures stopped { IfErr result (λ stop. (stop ≡ NoMemory) ⊎ N.stops stop) }

@@ -17,7 +17,7 @@ use std::sync::Arc;
 /// A chunk, and its rows among those of a scan.
 #[derive(Clone, Copy)]
 pub(crate) struct Span {
-    // The chunk's stamp; none while its rows are still being taken.
+    // The chunk's stamp; none while its rows are still being taken, and where they were cut by the limit.
     pub(crate) stamp: Option<u64>,
     pub(crate) from: usize,
     pub(crate) count: usize,

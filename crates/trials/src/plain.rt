@@ -12,7 +12,7 @@ use crate::trial::Host;
 use group_history::{Ended, Mutation, PlainGroup, Refusal, Scan, Text};
 use pull_patch::read_response;
 use push_body::{Identity, pull_bytes, push_bytes};
-use rebase::{Call, Mutate, Polled, Reply, Rows, Ticket};
+use rebase::{Call, CallReply, Mutate, Polled, Rows, Ticket};
 use script_mutators::ScriptMutators;
 use script_parser::{ClientLine, Command, Query, uuid_text};
 use std::alloc::{AllocError, Global};
@@ -46,8 +46,8 @@ struct Player {
 impl Plain {
     fn value(&self, key: &Text) -> Answer {
         match self.group.get(key) {
-            Some(value) => Ok(Reply::Value(Some(value.clone()?))),
-            None => Ok(Reply::Value(None)),
+            Some(value) => Ok(CallReply::Value(Some(value.clone()?))),
+            None => Ok(CallReply::Value(None)),
         }
     }
 
@@ -62,12 +62,12 @@ impl Plain {
     fn query(&self, call: Call<'_>) -> Answer {
         match call {
             Call::Get(key) => self.value(key),
-            Call::Has(key) => Ok(Reply::Is(self.group.has(key))),
-            Call::Scan(scan) => Ok(Reply::Rows(self.group.scan(scan)?)),
-            Call::IsEmpty => Ok(Reply::Is(self.group.is_empty())),
-            Call::Closed => Ok(Reply::Is(self.group.closed())),
-            Call::Pending => Ok(Reply::Pending(self.pending()?)),
-            _ => Ok(Reply::Cookie(self.group.cookie().clone()?)),
+            Call::Has(key) => Ok(CallReply::Is(self.group.has(key))),
+            Call::Scan(scan) => Ok(CallReply::Rows(self.group.scan(scan)?)),
+            Call::IsEmpty => Ok(CallReply::Is(self.group.is_empty())),
+            Call::Closed => Ok(CallReply::Is(self.group.closed())),
+            Call::Pending => Ok(CallReply::Pending(self.pending()?)),
+            _ => Ok(CallReply::Cookie(self.group.cookie().clone()?)),
         }
     }
 
@@ -98,11 +98,11 @@ impl Plain {
     /// Makes a call of a client with this ID and this last id.
     fn call(&mut self, id: &Text, last: u64, call: Call<'_>) -> Answer {
         match call {
-            Call::Refresh => Ok(Reply::Id(self.group.last(id))),
-            Call::PushBody => self.push(0).map(Reply::Body),
-            Call::BeginPull => self.begin().map(Reply::Ticket),
-            Call::Mutate(it) => self.mutate(id, last, it).map(Reply::Id),
-            Call::EndPull(ticket, body) => self.end(ticket, body).map(Reply::Ended),
+            Call::Refresh => Ok(CallReply::Id(self.group.last(id))),
+            Call::PushBody => self.push(0).map(CallReply::Body),
+            Call::BeginPull => self.begin().map(CallReply::Ticket),
+            Call::Mutate(it) => self.mutate(id, last, it).map(CallReply::Id),
+            Call::EndPull(ticket, body) => self.end(ticket, body).map(CallReply::Ended),
             query => self.query(query),
         }
     }
@@ -192,12 +192,12 @@ impl Player {
     /// Keeps the ticket of a pull that is begun, and the id that is replied.
     fn keep(&mut self, command: &Command, answer: Answer, out: &mut Said) {
         match (command, answer) {
-            (Command::Begin(number), Ok(Reply::Ticket(ticket))) => {
+            (Command::Begin(number), Ok(CallReply::Ticket(ticket))) => {
                 if keep_ticket(&mut self.tickets, *number, ticket).is_err() {
                     out.cut();
                 }
             }
-            (_, Ok(Reply::Id(id))) => self.last = id,
+            (_, Ok(CallReply::Id(id))) => self.last = id,
             (_, answer) => drop(answer),
         }
     }
@@ -298,7 +298,7 @@ fn players_of(alloc: Global, lines: &[ClientLine]) -> Result<Vec<Player>, AllocE
 /// Says the answer to what no call asks.
 fn say_asked(plain: &Plain, query: &Query, out: &mut Said) {
     match query {
-        Query::Push(skip) => out.say_answer("", &plain.push(*skip).map(Reply::Body)),
+        Query::Push(skip) => out.say_answer("", &plain.push(*skip).map(CallReply::Body)),
         _ => out.say("nothing of a plain group"),
     }
 }

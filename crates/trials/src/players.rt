@@ -12,7 +12,7 @@ use crate::replies::{Answer, Said, id_word, is_change};
 use crate::rows::{Manner, ONCE, Way};
 use chunk_slots::Store;
 use group_history::{Json, Refusal, Scan, Text};
-use rebase::{Call, Client, Group, Polled, Reply, Seat, Seats, TakesRows, Watch};
+use rebase::{Call, CallReply, Client, Group, Polled, Seat, Seats, TakesRows, Watch};
 use script_mutators::ScriptMutators;
 use script_parser::{Command, Query};
 use std::alloc::{AllocError, Global};
@@ -166,7 +166,7 @@ impl<'g, S: Store<ScriptMutators> + Drop> Player<'g, S> {
 
     /// Keeps the ticket of a pull that it began.
     fn keep(&mut self, command: &Command, answer: Answer, out: &mut Said) {
-        if let (Command::Begin(number), Ok(Reply::Ticket(ticket))) = (command, answer)
+        if let (Command::Begin(number), Ok(CallReply::Ticket(ticket))) = (command, answer)
             && keep_ticket(&mut self.tickets, *number, ticket).is_err()
         {
             out.cut();
@@ -500,10 +500,10 @@ fn made<R: Wait, S: Store<ScriptMutators>>(
 {
     match (call, way.manner) {
         (Call::Mutate(m), Manner::Waits) => {
-            client.mutate(on, m.name, m.args, m.time).map(Reply::Id)
+            client.mutate(on, m.name, m.args, m.time).map(CallReply::Id)
         }
         (Call::EndPull(ticket, body), Manner::Waits) => {
-            client.end_pull(on, ticket, body).map(Reply::Ended)
+            client.end_pull(on, ticket, body).map(CallReply::Ended)
         }
         (call, _) => client.make_call(call, way.tries),
     }

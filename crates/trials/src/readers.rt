@@ -8,7 +8,7 @@ use crate::replies::{Answer, Said};
 use crate::rows::{Manner, Way};
 use chunk_slots::Store;
 use group_history::{Refusal, Scan, Text};
-use rebase::{Client, ReadTx, Reply};
+use rebase::{CallReply, Client, ReadTx};
 use script_mutators::ScriptMutators;
 use script_parser::Query;
 use std::alloc::Global;
@@ -131,7 +131,7 @@ pub(crate) fn asked_by<S: Store<ScriptMutators>>(
     ensures { IsSameSeat client.old.seat client.new.seat }
 {
     match query {
-        Query::Push(skip) => client.push_body(*skip, tries).map(Reply::Body),
+        Query::Push(skip) => client.push_body(*skip, tries).map(CallReply::Body),
         query => read_once(client, query, tries),
     }
 }
@@ -155,7 +155,7 @@ fn pulled_value<S: Store<ScriptMutators>>(
     key: &Text,
 ) -> Answer {
     let mut pulled = tx.pulled()?;
-    Ok(Reply::Value(pulled.get(key.as_str())?))
+    Ok(CallReply::Value(pulled.get(key.as_str())?))
 }
 
 fn pulled_rows<S: Store<ScriptMutators>>(
@@ -163,18 +163,18 @@ fn pulled_rows<S: Store<ScriptMutators>>(
     scan: &Scan,
 ) -> Answer {
     let mut pulled = tx.pulled()?;
-    Ok(Reply::Rows(pulled.scan(scan)?))
+    Ok(CallReply::Rows(pulled.scan(scan)?))
 }
 
 fn asked<S: Store<ScriptMutators>>(tx: &ReadTx<'_, ScriptMutators, S>, query: &Query) -> Answer {
     match query {
-        Query::Get(key) => tx.get(key.as_str()).map(Reply::Value),
-        Query::Scan(scan) => tx.scan(scan).map(Reply::Rows),
+        Query::Get(key) => tx.get(key.as_str()).map(CallReply::Value),
+        Query::Scan(scan) => tx.scan(scan).map(CallReply::Rows),
         Query::PulledGet(key) => pulled_value(tx, key),
         Query::PulledScan(scan) => pulled_rows(tx, scan),
-        Query::Pending => tx.pending().map(Reply::Pending),
-        Query::Cookie => tx.cookie().map(Reply::Cookie),
-        query => tells(tx, query).map(Reply::Is),
+        Query::Pending => tx.pending().map(CallReply::Pending),
+        Query::Cookie => tx.cookie().map(CallReply::Cookie),
+        query => tells(tx, query).map(CallReply::Is),
     }
 }
 

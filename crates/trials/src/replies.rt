@@ -1,7 +1,7 @@
 //! What calls are answered, as scripts print it.
 use group_history::{Ended, Json, Mutation, Refusal, Text};
 use push_body::push_quoted;
-use rebase::{Polled, Reply};
+use rebase::{CallReply, Polled};
 use script_parser::Command;
 use std::alloc::{AllocError, Global};
 
@@ -138,18 +138,18 @@ impl Said {
     }
 
     /// Says a reply; before an id stands that word.
-    fn say_reply(&mut self, id_word: &str, reply: &Reply) {
+    fn say_reply(&mut self, id_word: &str, reply: &CallReply) {
         match reply {
-            Reply::Value(value) => self.say_value(value.as_ref()),
-            Reply::Is(is) => self.say(if *is { "yes" } else { "no" }),
-            Reply::Rows(rows) => self.say_rows("rows ", rows),
-            Reply::Pending(pending) => self.say_pending(pending),
-            Reply::Cookie(cookie) => self.say_behind("cookie ", cookie.text().as_bytes()),
-            Reply::Id(id) => self.say_number(id_word, *id),
-            Reply::Body(body) => self.say_behind("push ", body),
-            Reply::Ticket(ticket) => self.say_behind("pull ", &ticket.body),
-            Reply::Ended(Ended::Applied) => self.say("applied"),
-            Reply::Ended(Ended::Same) => self.say("same"),
+            CallReply::Value(value) => self.say_value(value.as_ref()),
+            CallReply::Is(is) => self.say(if *is { "yes" } else { "no" }),
+            CallReply::Rows(rows) => self.say_rows("rows ", rows),
+            CallReply::Pending(pending) => self.say_pending(pending),
+            CallReply::Cookie(cookie) => self.say_behind("cookie ", cookie.text().as_bytes()),
+            CallReply::Id(id) => self.say_number(id_word, *id),
+            CallReply::Body(body) => self.say_behind("push ", body),
+            CallReply::Ticket(ticket) => self.say_behind("pull ", &ticket.body),
+            CallReply::Ended(Ended::Applied) => self.say("applied"),
+            CallReply::Ended(Ended::Same) => self.say("same"),
         }
     }
 
@@ -172,7 +172,7 @@ impl Said {
 }
 
 /// What is answered to a call.
-pub(crate) type Answer = Result<Reply, Refusal>;
+pub(crate) type Answer = Result<CallReply, Refusal>;
 
 /// What stands before the id that a command is answered.
 pub(crate) fn id_word(command: &Command) -> &'static str {
@@ -188,7 +188,7 @@ pub(crate) fn is_change(command: &Command, answer: &Answer) -> bool {
         Command::Mutate(_) => answer.is_ok(),
         Command::End(..) => matches!(
             answer,
-            Ok(Reply::Ended(Ended::Applied)) | Err(Refusal::StateNotFound)
+            Ok(CallReply::Ended(Ended::Applied)) | Err(Refusal::StateNotFound)
         ),
         _ => false,
     }

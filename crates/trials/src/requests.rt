@@ -2,12 +2,12 @@
 use crate::calls::Turn;
 use crate::marks::{begins, ends};
 use crate::texts::cookie_of;
+use commit_publishing::placing_laws;
 use group_history::{
     Change, Cookie, Json, Mutation, Ref, Refusal, Reply, Text, read_value, record_laws,
     worked_examples,
 };
 use head_word::{Head, book_laws};
-use publishing::placing_laws;
 use push_body::{Identity, pull_bytes, push_bytes};
 use reader_claims::Claims;
 use rebase::{Config, OutOfRange};

@@ -4,8 +4,8 @@ use Rattle.std.specs.Prelude.{IfErr, IfSome, IsSome}
 use Rattle.logbook.specs.Pages.{Book}
 use Rattle.group_history.specs.declared.refusals.Refusal.{Refusal}
 use Rattle.group_history.specs.Meaning.{Meanings}
-use Rattle.answered.specs.Answered.{IsLinearized, no_change}
-use Rattle.group_steps.specs.Missing.{IsMissedOrDry}
+use Rattle.linearized.specs.Answered.{IsLinearized, no_change}
+use Rattle.change_tries.specs.Missing.{IsStoreOrMemory}
 use Rattle.rebase.specs.Clients.{ClientState}
 use Rattle.rebase.specs.declared.tickets.Ticket.{Ticket}
 use Rattle.rebase.specs.declared.watching.Polled.{Polled}
@@ -58,7 +58,7 @@ telling_of tells.Changes = TellsChanges
 abbrev pub IsPolled : Telling → Meanings → ClientState → ClientState → Watched → Watched → Told → Type 0
 IsPolled telling means client next watch new t = ((reply : Result Polled Refusal)
     × IsLinearized means tries client.seat.mark next.seat.mark reply no_change (λ s. Ok (poll_at means watch s))
-    × IfErr reply (IsMissedOrDry ⊤) × telling watch reply t × (new ≡ watch_after watch reply))
+    × IfErr reply (IsStoreOrMemory ⊤) × telling watch reply t × (new ≡ watch_after watch reply))
     ⊎ ((t ≡ dry) × (new ≡ watch))
 
 -- each watch that is kept is of this book

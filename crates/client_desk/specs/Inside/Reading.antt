@@ -7,25 +7,25 @@ use Rattle.group_history.specs.Meaning.{Meanings}
 use Rattle.group_history.specs.Scans.{rows_of}
 use Rattle.group_history.specs.Spelling.{Version}
 use Rattle.group_history.specs.State.{State}
-use Rattle.answered.specs.Answered.{IsLinearized, IsPoint, no_change}
-use Rattle.group_steps.specs.Missing.{IsMissedOrDry}
+use Rattle.linearized.specs.Answered.{IsLinearized, IsPoint, no_change}
+use Rattle.change_tries.specs.Missing.{IsStoreOrMemory}
 use Rattle.push_body.specs.Bodies.{push_text}
-use Rattle.rebase.specs.Clients.{ClientState, Stays}
-use Rattle.client_desk.specs.declared.calls.Call.{Call}
-use Rattle.client_desk.specs.declared.calls.Call.TheVariants as call
+use Rattle.rebase.specs.Clients.{ClientState, AfterQuery}
+use Rattle.client_desk.specs.declared.calls.DeskCall.{DeskCall}
+use Rattle.client_desk.specs.declared.calls.DeskCall.TheVariants as call
 use Rattle.client_desk.specs.declared.outcomes.Outcome.TheVariants.{Nothing}
 use Rattle.client_desk.specs.Answers.{ReadsBy, ReadsKept, moment_by, read_by, tries}
 use Rattle.client_desk.specs.Told.{Told, bytes_told, cookie_told, is_told, pending_told, rows_told, tells}
 use Rattle.client_desk.specs.Told.{told_alone, value_told}
 
 -- it reads what the server last sent
-abbrev pub is_pulled : Call → Bool
+abbrev pub is_pulled : DeskCall → Bool
 is_pulled (call.PulledGet key) = true
 is_pulled (call.PulledScan scan) = true
 is_pulled other = false
 
 -- one commit answers it
-abbrev pub is_query : Call → Bool
+abbrev pub is_query : DeskCall → Bool
 is_query (call.Get key) = true
 is_query (call.Has key) = true
 is_query (call.Scan scan) = true
@@ -36,7 +36,7 @@ is_query call.Closed = true
 is_query other = is_pulled other
 
 -- what it is told there
-abbrev pub query_told : Version → Call → Told
+abbrev pub query_told : Version → DeskCall → Told
 query_told v (call.Get key) = value_told (finite.get v.read key.now)
 query_told v (call.Has key) = is_told (finite.contains_key v.read key.now)
 query_told v (call.Scan scan) = rows_told (rows_of scan.now v.read)
@@ -55,8 +55,8 @@ pub record ToldBy (means : Meanings) (client next : ClientState) (n m : ℕ) (t 
   pub answer : IsLinearized means tries client.seat.mark next.seat.mark reply no_change (λ s. Ok (right s))
   pub point : IfOk reply (λ x. IsPoint means client.seat.mark next.seat.mark None next.seat.mark.log)
   pub at : IfOk reply (λ x. x ≡ right (read_by next))
-  pub refused : IfErr reply (IsMissedOrDry ⊤)
-  pub stays : Stays ⊤ client next
+  pub refused : IfErr reply (IsStoreOrMemory ⊤)
+  pub stays : AfterQuery ⊤ client next
   pub told : t ≡ tells (λ x. x) reply
   pub moment : m ≡ moment_by reply next n
 
@@ -64,7 +64,7 @@ pub record ToldBy (means : Meanings) (client next : ClientState) (n m : ℕ) (t 
 pub record ToldKept (reader : ClientState) (n m : ℕ) (t : Told) (right : State → Told) : Type 0 where
   pub reply : Result Told Refusal
   pub answer : IfOk reply (λ x. x ≡ right (read_by reader))
-  pub refused : IfErr reply (IsMissedOrDry ⊤)
+  pub refused : IfErr reply (IsStoreOrMemory ⊤)
   pub told : t ≡ tells (λ x. x) reply
   pub moment : m ≡ moment_by reply reader n
 

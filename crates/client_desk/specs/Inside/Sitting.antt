@@ -2,10 +2,10 @@
 use Rattle.std.specs.Prelude.{◌≡◌, Bool, None, Some, IfSome}
 use Rattle.group_history.specs.Map.{Bytes}
 use Rattle.group_history.specs.Meaning.{Meanings}
-use Rattle.commit_graph.specs.Seats.{IsSeatOf, Seated}
-use Rattle.group_steps.specs.Missing.{map_ok}
+use Rattle.commit_graph.specs.Seats.{IsSeatOf, SeatState}
+use Rattle.change_tries.specs.Missing.{map_ok}
 use Rattle.rebase.specs.declared.asking.Asked.{Asked}
-use Rattle.rebase.specs.Asked.{Tells}
+use Rattle.rebase.specs.Asked.{TellsAsked}
 use Rattle.rebase.specs.Clients.{ClientState, Grouped}
 use Rattle.rebase.specs.Replies.{reply_seen}
 use Rattle.client_desk.specs.declared.outcomes.Outcome.TheVariants.{Asked as AsksRun}
@@ -55,15 +55,15 @@ pub record IsTaken (has : Bytes → Bool) (means : Meanings) {M : Type 0} (sitti
 
 -- the client left, and its tickets and watches are given up
 abbrev pub IsLeft : ClientState → PlaceState → PlaceState → Type 0
-IsLeft client old new = (seat : Seated) × HasLeft client seat × (new ≡ free_place old.group seat)
+IsLeft client old new = (seat : SeatState) × HasLeft client seat × (new ≡ free_place old.group seat)
 
 -- what a change came to is of this group
 abbrev pub IsStepAt : (Bytes → Bool) → Meanings → Grouped → {M S T : Type 0} → Asked M S T → Type 0
-IsStepAt has means group step = Tells step (IsAsking has means group) (λ c reply. IsAt group c)
+IsStepAt has means group step = TellsAsked step (IsAsking has means group) (λ c reply. IsAt group c)
 
 -- it is told, and the place, from which the client was taken, has it
 abbrev pub Stands : {M S T : Type 0} → Asked M S T → PlaceState → Told → PlaceState → Type 0
-Stands step old t new = Tells step
+Stands step old t new = TellsAsked step
     (λ a. (t ≡ told_alone AsksRun) × (new ≡ record old { seat = None; client = None; asking = Some a; reading = None }))
     (λ c reply. (t ≡ tells replied_told (map_ok reply_seen reply))
     × (new ≡ record old { seat = None; client = Some c; asking = None; reading = None }))

@@ -7,60 +7,60 @@ use Rattle.group_history.specs.declared.refs.Ref.{Ref}
 use Rattle.group_history.specs.Refs.{stamp_of}
 use Rattle.group_history.specs.Naming.{chunk_children, commits_named}
 use Rattle.group_history.specs.Spelling.{Contents, Segment, Version, segment_at, version_at}
-use Rattle.commit_graph.specs.declared.founds.Found.{Found}
-use Rattle.commit_graph.specs.declared.founds.Found.TheVariants as found
+use Rattle.commit_graph.specs.declared.founds.NamedNode.{NamedNode}
+use Rattle.commit_graph.specs.declared.founds.NamedNode.TheVariants as found
 use Rattle.commit_graph.specs.Reach.{stamps_of}
 
 -- the reference of a node that was found, and its stamp
-abbrev pub ref_in : Found → Ref
+abbrev pub ref_in : NamedNode → Ref
 ref_in (found.Chunk r) = r
 ref_in (found.Commit r) = r
 
-abbrev pub stamp_in : Found → ℕ
+abbrev pub stamp_in : NamedNode → ℕ
 stamp_in f = stamp_of (ref_in f)
 
 -- what a node names, each by its kind
-abbrev pub found_in : Node Ref → List Found
+abbrev pub found_in : Node Ref → List NamedNode
 found_in (node.Chunk c) = map found.Chunk (chunk_children c)
 found_in (node.Commit c) = found.Chunk c.root ∷ map found.Commit (commits_named c.kind)
 
 -- it is of its kind, with all below it
-abbrev pub IsSpelled : Contents → Found → Type 0
+abbrev pub IsSpelled : Contents → NamedNode → Type 0
 IsSpelled ns (found.Chunk r) = (s : Segment) × (segment_at ns (stamp_of r) ≡ Some s)
 IsSpelled ns (found.Commit r) = (v : Version) × (version_at ns (stamp_of r) ≡ Some v)
 
 -- a node may be looked for at each of these
-abbrev pub AreFound : (Ref → Type 0) → List Found → Type 0
-AreFound places fs = (f : Found) → Contains fs f → places (ref_in f)
+abbrev pub AreFound : (Ref → Type 0) → List NamedNode → Type 0
+AreFound places fs = (f : NamedNode) → Contains fs f → places (ref_in f)
 
 -- each stands under its stamp
-abbrev pub AreKeyed : List (ℕ × Found) → Type 0
+abbrev pub AreKeyed : List (ℕ × NamedNode) → Type 0
 AreKeyed es = map (λ e. e.0) es ≡ map (λ e. stamp_in e.1) es
 
 -- one of these has the stamp
-abbrev pub HasStamp : List Found → ℕ → Type 0
-HasStamp fs x = (f : Found) × Contains fs f × (stamp_in f ≡ x)
+abbrev pub HasStamp : List NamedNode → ℕ → Type 0
+HasStamp fs x = (f : NamedNode) × Contains fs f × (stamp_in f ≡ x)
 
 -- news are olds and xs, one for each stamp
-pub record Joins (olds xs news : List Found) : Type 0 where
-  pub from : (f : Found) → Contains news f → Contains olds f ⊎ Contains xs f
-  pub kept : (f : Found) → Contains olds f → HasStamp news (stamp_in f)
-  pub added : (f : Found) → Contains xs f → HasStamp news (stamp_in f)
+pub record Joins (olds xs news : List NamedNode) : Type 0 where
+  pub from : (f : NamedNode) → Contains news f → Contains olds f ⊎ Contains xs f
+  pub kept : (f : NamedNode) → Contains olds f → HasStamp news (stamp_in f)
+  pub added : (f : NamedNode) → Contains xs f → HasStamp news (stamp_in f)
 
 -- where one stands at the top, each of the others has a smaller stamp
-abbrev pub IsTop : Option Found → List Found → Type 0
-IsTop top fs = (t f : Found) → top ≡ Some t → Contains fs f → stamp_in f < stamp_in t
+abbrev pub IsTop : Option NamedNode → List NamedNode → Type 0
+IsTop top fs = (t f : NamedNode) → top ≡ Some t → Contains fs f → stamp_in f < stamp_in t
 
 -- What a walk still has to look at, and some of the stamps that it has met.
 pub record Walked : Type 0 where
-  pub ahead : List Found
+  pub ahead : List NamedNode
   pub met : List ℕ
 
 -- One step further xs are ahead too, but for what was met before. What is ahead has one node for each stamp.
-pub record Adds (olds : Walked) (xs : List Found) (news : Walked) : Type 0 where
-  pub from : (f : Found) → Contains news.ahead f → Contains olds.ahead f ⊎ Contains xs f
-  pub kept : (f : Found) → Contains olds.ahead f → HasStamp news.ahead (stamp_in f)
-  pub added : (f : Found) → Contains xs f → HasStamp news.ahead (stamp_in f) ⊎ Contains olds.met (stamp_in f)
+pub record Adds (olds : Walked) (xs : List NamedNode) (news : Walked) : Type 0 where
+  pub from : (f : NamedNode) → Contains news.ahead f → Contains olds.ahead f ⊎ Contains xs f
+  pub kept : (f : NamedNode) → Contains olds.ahead f → HasStamp news.ahead (stamp_in f)
+  pub added : (f : NamedNode) → Contains xs f → HasStamp news.ahead (stamp_in f) ⊎ Contains olds.met (stamp_in f)
   pub met : (x : ℕ) → Contains news.met x → HasStamp news.ahead x ⊎ Contains olds.met x
 
 -- What is ahead stays. Some stamps that have the property are known as met.

@@ -6,8 +6,8 @@ use Rattle.group_history.specs.declared.refs.Ref.{Ref}
 use Rattle.group_history.specs.declared.refusals.Refusal.{Refusal}
 use Rattle.group_history.specs.declared.refusals.Refusal.TheVariants as refusal
 use Rattle.group_history.specs.declared.responses.Ended.{Ended}
-use Rattle.group_steps.specs.Changing.{ended_as}
-use Rattle.group_steps.specs.Missing.{map_ok}
+use Rattle.change_tries.specs.Changing.{ended_as}
+use Rattle.change_tries.specs.Missing.{map_ok}
 use Rattle.rebase.specs.Replies.{Replied, ended, id}
 
 -- a closing is told as the refusal that it stands for

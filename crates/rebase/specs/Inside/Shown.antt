@@ -2,10 +2,10 @@
 use Rattle.std.specs.Prelude.{ℕ, ◌≡◌, reverse}
 use Rattle.group_history.specs.declared.changes.Change.{Change}
 use Rattle.head_word.specs.Books.{drawn}
-use Rattle.group_steps.specs.Runs.{run_map, run_start}
-use Rattle.group_steps.specs.declared.trying.Attempt.{Attempt}
-use Rattle.group_steps.specs.declared.trying.Progress.{Progress}
-use Rattle.group_steps.specs.declared.trying.Progress.TheVariants as progress
+use Rattle.change_tries.specs.Runs.{run_map, run_start}
+use Rattle.change_tries.specs.declared.trying.Attempt.{Attempt}
+use Rattle.change_tries.specs.declared.trying.Progress.{Progress}
+use Rattle.change_tries.specs.declared.trying.Progress.TheVariants as progress
 use Rattle.rebase.specs.Clients.{ClientState}
 use Rattle.rebase.specs.Running.{UnderWay}
 

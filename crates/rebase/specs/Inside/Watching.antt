@@ -5,6 +5,7 @@ use mathlib.Core.List.{IsPrefix}
 use Rattle.group_history.specs.declared.scans.Scan.{Scan}
 use Rattle.group_history.specs.Map.{Entries}
 use Rattle.group_history.specs.Meaning.{Meanings}
+use Rattle.group_history.specs.Queries.{view_rows}
 use Rattle.group_history.specs.Record.{after}
 use Rattle.group_history.specs.Refs.{stamp_of}
 use Rattle.group_history.specs.Rows.{Rows}
@@ -33,14 +34,10 @@ CoversMap contents scan cover m = Covers scan contents cover (scanned scan (fini
 abbrev pub CoversView : Meanings → List Entry → Scan → List ℕ → Type 0
 CoversView means log scan cover = CoversMap (drawn log) scan cover (view_of means (after (record_of log)))
 
--- the rows of the view there that the scan has, its limit aside
-abbrev pub unlimited : Meanings → List Entry → Scan → Rows
-unlimited means log scan = scanned scan (finite.entries (view_of means (after (record_of log))))
-
 -- what a scan there finds that is made again, where these spans are of the rows of before: in all that is known
 abbrev pub IsFoundAgain : Meanings → List Entry → Scan → Rows → List Span → Rescanned → Type 0
 IsFoundAgain means log scan told known found = (all : Contents) → IsPrefix (drawn log) all
-    → AreSpans scan all told known → IsRescanned scan all told (unlimited means log scan) found
+    → AreSpans scan all told known → IsRescanned scan all told (view_rows means (after (record_of log)) scan) found
 
 -- The rows are those of the map that the root spells, lie in the chunks of the cover, and have these spans.
 abbrev pub AreRead : Contents → Scan → Option LastAnswer → Type 0

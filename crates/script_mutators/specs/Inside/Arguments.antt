@@ -5,15 +5,15 @@ use Rattle.serde_json.specs.Find.{of_integer}
 use Rattle.serde_json.specs.View.{view}
 use Rattle.script_mutators.specs.declared.arguments.Args.{Args}
 use Rattle.script_mutators.specs.declared.arguments.Args.TheVariants as args
-use Rattle.script_mutators.specs.declared.arguments.Part.{Part}
-use Rattle.script_mutators.specs.declared.arguments.Part.TheVariants as part
+use Rattle.script_mutators.specs.declared.arguments.Argument.{Argument}
+use Rattle.script_mutators.specs.declared.arguments.Argument.TheVariants as part
 
 -- a whole number as a value
 abbrev pub whole : ℤ → Data
 whole z = number (of_integer z)
 
 -- the value that one of the arguments is
-abbrev pub part_value : Part → Data
+abbrev pub part_value : Argument → Data
 part_value (part.Number z) = whole z
 part_value (part.Text s) = string s.now
 part_value (part.Other v) = view v.now

@@ -6,7 +6,7 @@ use Rattle.script_parser.specs.declared.faults.LineFault.TheVariants as line
 use Rattle.script_parser.specs.declared.faults.Fault.{Fault}
 use Rattle.script_parser.specs.declared.faults.Fault.TheVariants as fault
 use Rattle.script_parser.specs.declared.script.Command.{Command}
-use Rattle.script_parser.specs.declared.script.Asked.{Asked}
+use Rattle.script_parser.specs.declared.script.LineKind.{LineKind}
 use Rattle.script_parser.specs.Context.{Context}
 use Rattle.script_parser.specs.Reading.{with_asked}
 use Rattle.script_parser.specs.Inside.Reading.{IsBeside}
@@ -55,7 +55,7 @@ Tells right old new (Err (line.Script f)) = (right ≡ Err f) × (new ≡ old)
 Tells right old new (Err line.NoMemory) = new ≡ old
 
 -- The same of any line of this number: Ok with what it asks, which is said beside what is kept.
-abbrev pub Asks : ℕ → Result Context ScriptFault → Context → Context → Result Asked LineFault → Type 0
+abbrev pub Asks : ℕ → Result Context ScriptFault → Context → Context → Result LineKind LineFault → Type 0
 Asks n right old new (Ok asked) = (right ≡ Ok (with_asked asked new)) × IsBeside n old asked new
 Asks n right old new (Err (line.Script f)) = (right ≡ Err f) × (new ≡ old)
 Asks n right old new (Err line.NoMemory) = new ≡ old

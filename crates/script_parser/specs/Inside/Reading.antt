@@ -1,13 +1,13 @@
 -- What is kept of a line beside what it asks.
 use Rattle.std.specs.Prelude.{◌≡◌, ℕ, ◌<◌, List, [], ◌∷◌, length}
-use Rattle.script_parser.specs.declared.script.Asked.{Asked}
-use Rattle.script_parser.specs.declared.script.Asked.TheVariants as asked
+use Rattle.script_parser.specs.declared.script.LineKind.{LineKind}
+use Rattle.script_parser.specs.declared.script.LineKind.TheVariants as asked
 use Rattle.script_parser.specs.Context.{Context, Lines}
 use Rattle.script_parser.specs.Reading.{with_asked}
 
 -- Beside what a line of this number asks, no line is kept, and a client only before the first phase; beside a phase,
 -- nothing is.
-abbrev pub IsBeside : ℕ → Context → Asked → Context → Type 0
+abbrev pub IsBeside : ℕ → Context → LineKind → Context → Type 0
 IsBeside n old asked.Nothing new =
     (new.phases ≡ old.phases) × (0 < length old.phases → new.clients ≡ old.clients)
 IsBeside n old asked.Phase new = new ≡ old
@@ -21,7 +21,7 @@ noted [] c = with_asked asked.Phase c
 noted (p ∷ ps) c = c
 
 -- What is kept once it is known what is asked: of phases only that there is one.
-abbrev pub settled : Asked → Context → Context
+abbrev pub settled : LineKind → Context → Context
 settled asked.Nothing c = c
 settled asked.Phase c = noted c.phases c
 settled (asked.Command client line) c = c

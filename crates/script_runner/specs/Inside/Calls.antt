@@ -5,7 +5,7 @@ use Rattle.head_word.specs.Marks.{Known}
 use Rattle.client_desk.specs.Places.{PlaceState}
 use Rattle.client_desk.specs.Told.{Told}
 use Rattle.script_parser.specs.declared.script.Command.{Command}
-use Rattle.script_runner.specs.Commanding.{Learns, MayTell, Player}
+use Rattle.script_runner.specs.Commanding.{LearnsFirst, MayTell, Player}
 use Rattle.script_runner.specs.Sights.{seen_behind, sight_at}
 
 -- the client at a place learnt what the lines before have seen, and did the command; the others stay as they are
@@ -14,7 +14,7 @@ pub record IsCalledAt (means : Meanings) (sights : List (Option Known)) (seen : 
   pub client : Player
   pub at : slice_get before place ≡ Some client
   pub mid : PlaceState
-  pub learnt : Learns seen client.place mid
+  pub learnt : LearnsFirst seen client.place mid
   pub next : Player
   pub may : MayTell means sights c mid t next.place
   pub name : next.name ≡ client.name

@@ -5,7 +5,7 @@ use Rattle.group_history.specs.Meaning.{Meanings}
 use Rattle.head_word.specs.declared.entry.Entry.{Entry}
 use Rattle.head_word.specs.Books.{record_of, with_change}
 use Rattle.head_word.specs.Marks.{Known}
-use Rattle.answered.specs.Answered.{IsPoint, own_moves}
+use Rattle.linearized.specs.Answered.{IsPoint, own_moves}
 use Rattle.rebase.specs.Calls.{IsAlone}
 use Rattle.rebase.specs.Clients.{ClientState}
 use Rattle.client_desk.specs.Places.{PlaceState, client_at}

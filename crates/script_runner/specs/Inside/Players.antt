@@ -2,18 +2,18 @@
 use Rattle.std.specs.Prelude.{ℕ, ◌≡◌, ◌<◌, List, length, map, slice_index_or}
 use Rattle.group_history.specs.Map.{Bytes}
 use Rattle.group_history.specs.Meaning.{Meanings}
-use Rattle.commit_graph.specs.Seats.{Seated}
+use Rattle.commit_graph.specs.Seats.{SeatState}
 use Rattle.head_word.specs.Books.{opening, opening_ref}
 use Rattle.rebase.specs.Clients.{AreNumbered, Grouped}
 use Rattle.script_runner.specs.declared.client.ScriptClient.{ScriptClient}
-use Rattle.script_runner.specs.declared.phase.Turn.{Turn}
+use Rattle.script_runner.specs.declared.phase.ClientTurn.{ClientTurn}
 use Rattle.script_runner.specs.Commanding.{Player}
-use Rattle.script_runner.specs.Runs.{IsNew, id_at}
+use Rattle.script_runner.specs.Runs.{IsNewPlayer, id_at}
 
 abbrev pub player_of : {M : Type 0} → ScriptClient M → Player
 player_of c = record { name = c.name; place = c.place }
 
-abbrev pub players_of : {M : Type 0} → List (Turn M) → List Player
+abbrev pub players_of : {M : Type 0} → List (ClientTurn M) → List Player
 players_of turns = map (λ t. player_of t.client) turns
 
 -- it is the same client, by its name, and of the same group
@@ -21,19 +21,19 @@ abbrev pub IsSamePlayer : {M : Type 0} → ScriptClient M → ScriptClient M →
 IsSamePlayer old new = (new.name ≡ old.name) × (new.place.group ≡ old.place.group)
 
 -- what a client's line says of it: its name and its ID
-abbrev pub line_of : {M : Type 0} → Turn M → Bytes × Bytes
+abbrev pub line_of : {M : Type 0} → ClientTurn M → Bytes × Bytes
 line_of turn = (turn.client.name, id_at turn.client.place)
 
 -- a client of this group, by its number, before the first phase, whose mutators mean this
-abbrev pub IsNewIn : {M : Type 0} → Meanings → Grouped → ℕ → ℕ → ℕ → Turn M → Type 0
-IsNewIn means group count commit number turn = IsNew means group count commit number (player_of turn.client)
+abbrev pub IsNewIn : {M : Type 0} → Meanings → Grouped → ℕ → ℕ → ℕ → ClientTurn M → Type 0
+IsNewIn means group count commit number turn = IsNewPlayer means group count commit number (player_of turn.client)
 
 -- so are the clients of these turns
-abbrev pub AreNewIn : {M : Type 0} → Meanings → Grouped → ℕ → ℕ → List (Turn M) → Type 0
-AreNewIn means group count commit turns = (i : ℕ) (d : Turn _) → i < length turns
+abbrev pub AreNewIn : {M : Type 0} → Meanings → Grouped → ℕ → ℕ → List (ClientTurn M) → Type 0
+AreNewIn means group count commit turns = (i : ℕ) (d : ClientTurn _) → i < length turns
     → IsNewIn means group count commit i (slice_index_or turns i d)
 
 -- these seats are the free ones of a group that was opened for so many and whose others are taken in their order
-abbrev pub AreLeftOf : Grouped → ℕ → ℕ → List Seated → Type 0
+abbrev pub AreLeftOf : Grouped → ℕ → ℕ → List SeatState → Type 0
 AreLeftOf group count commit seats =
     AreNumbered group.group.book (opening count (opening_ref commit)) count seats

@@ -8,7 +8,7 @@ use Rattle.commit_graph.specs.Seats.{IsSameSeat}
 use Rattle.rebase.specs.Clients.{ClientState}
 use Rattle.client_desk.specs.Places.{PlaceState}
 use Rattle.script_runner.specs.Commanding.{Player}
-use Rattle.script_runner.specs.declared.phase.Turn.{Turn}
+use Rattle.script_runner.specs.declared.phase.ClientTurn.{ClientTurn}
 
 -- the client sits at the place, and no reading is open; or it has one open there
 abbrev pub SitsAt : ClientState → PlaceState → Type 0
@@ -35,7 +35,7 @@ AreSeated count commit players = (i : ℕ) (p : Player) → i < length players
     → IsSeated count commit i (slice_index_or players i p).place
 
 -- The client of a turn learnt what others had seen: it is on its seat still, and its seat added nothing.
-pub record HasLearnt {M : Type 0} (old new : Turn M) : Type 0 where
+pub record HasLearnt {M : Type 0} (old new : ClientTurn M) : Type 0 where
   pub client : ClientState
   pub next : ClientState
   pub sat : old.client.place.client ≡ Some client
@@ -49,23 +49,23 @@ abbrev pub log_of : Option ClientState → List Entry
 log_of None = []
 log_of (Some c) = c.seat.mark.log
 
-abbrev pub log_at : {M : Type 0} → Turn M → List Entry
+abbrev pub log_at : {M : Type 0} → ClientTurn M → List Entry
 log_at turn = log_of turn.client.place.client
 
 -- the client of the one turn has seen all that the client of the other one has
-abbrev pub Covers : {M : Type 0} → Turn M → Turn M → Type 0
+abbrev pub Covers : {M : Type 0} → ClientTurn M → ClientTurn M → Type 0
 Covers turn other = IsPrefix (log_at other) (log_at turn)
 
 -- the clients of these turns sit at their places
-abbrev pub IsSitting : {M : Type 0} → Turn M → Type 0
+abbrev pub IsSitting : {M : Type 0} → ClientTurn M → Type 0
 IsSitting turn = (c : ClientState) × (turn.client.place.client ≡ Some c)
 
 -- or they are the clients of these
-abbrev pub IsManned : {M : Type 0} → Turn M → Type 0
+abbrev pub IsManned : {M : Type 0} → ClientTurn M → Type 0
 IsManned turn = (c : ClientState) × IsClientOf c turn.client.place
 
 -- The client of a turn sits at its place, and no reading of it is open: one that was has ended. It knows what it knew.
-pub record HasReadThrough {M : Type 0} (old new : Turn M) : Type 0 where
+pub record HasReadThrough {M : Type 0} (old new : ClientTurn M) : Type 0 where
   pub client : ClientState
   pub next : ClientState
   pub was : IsClientOf client old.client.place
@@ -75,15 +75,15 @@ pub record HasReadThrough {M : Type 0} (old new : Turn M) : Type 0 where
   pub group : new.client.place.group ≡ old.client.place.group
 
 -- so do the first n of these, and the rest are as they were
-pub record HaveReadThrough {M : Type 0} (n : ℕ) (old new : List (Turn M)) : Type 0 where
+pub record HaveReadThrough {M : Type 0} (n : ℕ) (old new : List (ClientTurn M)) : Type 0 where
   pub count : length new ≡ length old
-  pub each : (k : ℕ) (d : Turn M) → k < n → k < length old
+  pub each : (k : ℕ) (d : ClientTurn M) → k < n → k < length old
       → HasReadThrough (slice_index_or old k d) (slice_index_or new k d)
-  pub rest : (k : ℕ) (d : Turn M) → n ≤ k → k < length old → slice_index_or new k d ≡ slice_index_or old k d
+  pub rest : (k : ℕ) (d : ClientTurn M) → n ≤ k → k < length old → slice_index_or new k d ≡ slice_index_or old k d
 
 -- the first n of these clients have learnt what the client of the other turn has seen; the rest are as they were
-pub record AreConfirmed {M : Type 0} (n : ℕ) (other : Turn M) (old new : List (Turn M)) : Type 0 where
+pub record AreConfirmed {M : Type 0} (n : ℕ) (other : ClientTurn M) (old new : List (ClientTurn M)) : Type 0 where
   pub count : length new ≡ length old
-  pub each : (k : ℕ) (d : Turn M) → k < n → k < length old
+  pub each : (k : ℕ) (d : ClientTurn M) → k < n → k < length old
       → HasLearnt (slice_index_or old k d) (slice_index_or new k d) × Covers (slice_index_or new k d) other
-  pub rest : (k : ℕ) (d : Turn M) → n ≤ k → k < length old → slice_index_or new k d ≡ slice_index_or old k d
+  pub rest : (k : ℕ) (d : ClientTurn M) → n ≤ k → k < length old → slice_index_or new k d ≡ slice_index_or old k d

@@ -8,7 +8,7 @@ use Rattle.group_history.specs.Meaning.{Meanings}
 use Rattle.head_word.specs.Marks.{Known}
 use Rattle.rebase.specs.Clients.{Grouped}
 use Rattle.script_runner.specs.declared.client.ScriptClient.{ScriptClient}
-use Rattle.script_runner.specs.declared.phase.Turn.{Turn}
+use Rattle.script_runner.specs.declared.phase.ClientTurn.{ClientTurn}
 use Rattle.script_parser.specs.declared.script.Command.{Command}
 use Rattle.script_runner.specs.Commanding.{MayPrint, Player}
 use Rattle.script_parser.specs.Context.{Lines}
@@ -22,22 +22,22 @@ printed_text (Ok text) = text.items
 printed_text (Err e) = []
 
 -- memory wasn't refused
-abbrev pub IsPrinted : {M : Type 0} → Turn M → Type 0
+abbrev pub IsPrinted : {M : Type 0} → ClientTurn M → Type 0
 IsPrinted turn = IsOk turn.printed
 
-abbrev pub texts_of : {M : Type 0} → List (Turn M) → List Bytes
+abbrev pub texts_of : {M : Type 0} → List (ClientTurn M) → List Bytes
 texts_of turns = map (λ t. printed_text t.printed) turns
 
 -- all clients are of one group
-abbrev pub AreOf : {M : Type 0} → Grouped → List (Turn M) → Type 0
+abbrev pub AreOf : {M : Type 0} → Grouped → List (ClientTurn M) → Type 0
 AreOf group turns = All (λ t. t.client.place.group ≡ group) turns
 
 -- of some one
-abbrev pub AreOfOneGroup : {M : Type 0} → List (Turn M) → Type 0
+abbrev pub AreOfOneGroup : {M : Type 0} → List (ClientTurn M) → Type 0
 AreOfOneGroup turns = (group : Grouped) × AreOf group turns
 
 -- of the group that they were of
-abbrev pub StayInGroup : {M : Type 0} → List (Turn M) → List (Turn M) → Type 0
+abbrev pub StayInGroup : {M : Type 0} → List (ClientTurn M) → List (ClientTurn M) → Type 0
 StayInGroup old new = (group : Grouped) → AreOf group old → AreOf group new
 
 module _ (means : Meanings) where
@@ -51,7 +51,7 @@ module _ (means : Meanings) where
 
   -- a client's part of a phase, where memory wasn't refused
   pub record IsTurn {M : Type 0} (sights : List (Option Known)) (lines : Lines)
-      (before : ScriptClient M) (after : Turn M) : Type 0 where
+      (before : ScriptClient M) (after : ClientTurn M) : Type 0 where
     pub told : IfOk after.printed (λ text. AreTold means sights (player_of before) lines text.items
         (player_of after.client))
     pub group : after.client.place.group ≡ before.place.group

@@ -3,10 +3,10 @@ use Rattle.std.specs.Prelude.{◌≡◌, ℕ, ◌+◌, ◌<◌, ⊤, Bool, true,
 use Rattle.std.specs.Prelude.{option_map, Ok}
 use Rattle.std.specs.Io.KnownBytes.{IsAtEnd}
 use Rattle.group_history.specs.Map.{Bytes}
-use Rattle.rule_mutators.specs.declared.mutators.Picked as Picked
+use Rattle.rule_mutators.specs.declared.mutators.NamesRules as NamesRules
 use Rattle.rule_mutators.specs.Views.{rules_of}
-use Rattle.script_parser.specs.declared.script.Asked.{Asked}
-use Rattle.script_parser.specs.declared.script.Asked.TheVariants as asked
+use Rattle.script_parser.specs.declared.script.LineKind.{LineKind}
+use Rattle.script_parser.specs.declared.script.LineKind.TheVariants as asked
 use Rattle.script_parser.specs.declared.script.Line.{Line}
 use Rattle.script_parser.specs.Context.{Context}
 use Rattle.script_parser.specs.Kept.{without_lines}
@@ -17,14 +17,14 @@ use Rattle.script_runner.specs.Commanding.{Player}
 use Rattle.script_runner.specs.Phases.{all_sights}
 use Rattle.script_runner.specs.Settling.{AreSteady, IsWhole, StaySteady}
 use Rattle.script_server.specs.declared.heads.Heads.{Heads}
-use Rattle.script_server.specs.declared.heads.Head.{Head}
-use Rattle.script_server.specs.declared.heads.Head.TheVariants as head
-use Rattle.script_server.specs.declared.heads.Turn.{Turn}
-use Rattle.script_server.specs.declared.heads.Turn.TheVariants as turn
+use Rattle.script_server.specs.declared.heads.HeaderLine.{HeaderLine}
+use Rattle.script_server.specs.declared.heads.HeaderLine.TheVariants as head
+use Rattle.script_server.specs.declared.heads.HeaderTurn.{HeaderTurn}
+use Rattle.script_server.specs.declared.heads.HeaderTurn.TheVariants as turn
 use Rattle.script_server.specs.declared.opened.Opened.{Opened}
 use Rattle.script_server.specs.Answers.{Answers, given_in, ok_text}
-use Rattle.script_server.specs.Lines.{HasTaken}
-use Rattle.script_server.specs.Serving.{Place, Served}
+use Rattle.script_server.specs.Lines.{HasTakenLine}
+use Rattle.script_server.specs.Serving.{ServedPlace, Served}
 use Rattle.script_server.specs.Standing.{Standing, means_in}
 
 -- how things stand before the first phase
@@ -38,7 +38,7 @@ heads_stand heads = record {
 }
 
 -- and from it on, where the group has the rules that are picked
-abbrev pub opened_stand : {B : Type 0} {picked : Picked.Ghosts B} → Opened B picked → Standing
+abbrev pub opened_stand : {B : Type 0} {picked : NamesRules.Ghosts B} → Opened B picked → Standing
 opened_stand {picked} opened = record {
   said = kept_by opened.reader;
   rules = Some picked.rules;
@@ -67,7 +67,7 @@ abbrev pub WhereWhole : Standing → Standing → Type 0 → Type 0
 WhereWhole old new P = AreSteady old.players old.seen → IsWholeAt new → P
 
 -- the client of a command is one of these
-abbrev pub IsPlaced : Asked → List Player → Type 0
+abbrev pub IsPlaced : LineKind → List Player → Type 0
 IsPlaced (asked.Command place line) players = place < length players
 IsPlaced what players = ⊤
 
@@ -78,7 +78,7 @@ pub record HasTold (place : ℕ) (line : Line) (before : Standing) (text : Bytes
   pub left : after ≡ record before { players = after.players; seen = after.seen }
 
 -- What a line asks is done, where that is said already which it says, and this is its answer.
-abbrev pub HasDone : Asked → ℕ → Standing → Bytes → Standing → Type 0
+abbrev pub HasDone : LineKind → ℕ → Standing → Bytes → Standing → Type 0
 HasDone asked.Nothing n before text after = (text ≡ ok_text n) × (after ≡ before)
 HasDone asked.Phase n before text after = (text ≡ ok_text n)
     × (after ≡ record before { sights = all_sights before.players })
@@ -94,55 +94,55 @@ pub record IsFirstPhase (n : ℕ) (line : Bytes) (before after : Standing) : Typ
   pub kept : after ≡ record before { said = without_lines said }
 
 -- What is known of a line before the first phase: it was answered, and is still before it, or it begins it.
-abbrev pub IsHead : Head → ℕ → Bytes → Standing → Bytes → Standing → Type 0
+abbrev pub IsHead : HeaderLine → ℕ → Bytes → Standing → Bytes → Standing → Type 0
 IsHead head.Answered n line before text after = Answers n line before text after × (after.said.phases ≡ [])
 IsHead head.Begins n line before text after = IsFirstPhase n line before after
 
 -- no command is asked
-abbrev pub IsNoCommand : Asked → Type 0
+abbrev pub IsNoCommand : LineKind → Type 0
 IsNoCommand (asked.Command place line) = ⊥
 IsNoCommand what = ⊤
 
 -- what becomes of a line that asks this before the first phase, and what it is answered
-abbrev pub IsHeadOf : Asked → ℕ → Head → Bytes → Type 0
+abbrev pub IsHeadOf : LineKind → ℕ → HeaderLine → Bytes → Type 0
 IsHeadOf asked.Nothing n what text = (what ≡ head.Answered) × (text ≡ ok_text n)
 IsHeadOf asked.Phase n what text = what ≡ head.Begins
 IsHeadOf (asked.Command place line) n what text = ⊥
 
 -- The next line at a place begins the first phase. It was taken, and isn't answered yet.
-pub record HasBegun (old new : Place) : Type 0 where
+pub record HasBegun (old new : ServedPlace) : Type 0 where
   pub line : Bytes
-  pub taken : HasTaken old.input (line ∷ []) new.input
+  pub taken : HasTakenLine old.input (line ∷ []) new.input
   pub first : IsFirstPhase old.number line old.standing new.standing
   pub number : new.number ≡ old.number
   pub output : new.output ≡ old.output
 
 -- a place, by its parts
-abbrev pub place_of : Standing → ℕ → Option Bytes → Option Bytes → Place
+abbrev pub place_of : Standing → ℕ → Option Bytes → Option Bytes → ServedPlace
 place_of s n input output = record { standing = s; number = n; input = input; output = output }
 
 -- the input was at its end there, and nothing was written
-abbrev pub IsLast : Place → Option Bytes → Type 0
+abbrev pub IsLast : ServedPlace → Option Bytes → Type 0
 IsLast old output = IsAtEnd old.input × (old.output ≡ output)
 
 -- how a turn before the first phase left things, and the streams
-abbrev pub HasTurned : Turn → Place → Standing → Option Bytes → Option Bytes → Type 0
+abbrev pub HasTurned : HeaderTurn → ServedPlace → Standing → Option Bytes → Option Bytes → Type 0
 HasTurned turn.Ended old s input output = IsLast old output
 HasTurned turn.Answered old s input output = Served old (place_of s (old.number + 1) input output)
     × (s.said.phases ≡ [])
 HasTurned turn.Begins old s input output = HasBegun old (place_of s old.number input output)
 
 -- the input was served to its end
-abbrev pub IsServed : Place → Option Bytes → Type 0
-IsServed old output = (last : Place) × Served old last × IsLast last output
+abbrev pub IsServed : ServedPlace → Option Bytes → Type 0
+IsServed old output = (last : ServedPlace) × Served old last × IsLast last output
 
 -- how all turns before the first phase did: it begins with the line of this number, or the input ended before it
-abbrev pub AreHeads : Option ℕ → Place → Standing → Option Bytes → Option Bytes → Type 0
+abbrev pub AreHeads : Option ℕ → ServedPlace → Standing → Option Bytes → Option Bytes → Type 0
 AreHeads None old s input output = IsServed old output
-AreHeads (Some n) old s input output = (mid : Place) × Served old mid × HasBegun mid (place_of s n input output)
+AreHeads (Some n) old s input output = (mid : ServedPlace) × Served old mid × HasBegun mid (place_of s n input output)
 
 -- how a turn from the first phase on did, where there was one more line or none
-abbrev pub HasAnswered : Bool → Place → Standing → Option Bytes → Option Bytes → Type 0
+abbrev pub HasAnswered : Bool → ServedPlace → Standing → Option Bytes → Option Bytes → Type 0
 HasAnswered true old s input output =
     WhereWhole old.standing s (Served old (place_of s (old.number + 1) input output)) × IsOpen s
 HasAnswered false old s input output = IsLast old output

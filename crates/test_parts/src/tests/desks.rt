@@ -3,7 +3,7 @@ ghost use Rattle.std.specs.Prelude.{false, refl};
 ghost use Rattle.group_history.specs.Meaning.{unknown};
 ghost use Rattle.client_desk.specs.Drafts.{HasRunAsMeant};
 
-use client_desk::{Call, HostRuns, Hosted, Keep, Mutate, Place, Write};
+use client_desk::{DeskCall, HostRuns, Hosted, Keep, Mutate, Place, Write};
 use group_history::{Json, Means, Ran, Reason, Refusal, Scan, Start, Stop, Text, WriteView};
 use rebase::{Arena, Config, Group, Has, Identity, Runs, Uuid};
 use std::alloc::Global;
@@ -63,7 +63,7 @@ fn new_place(alloc: Global) -> Result<Place<Others>, Refusal> {
 /// Makes a call, and writes down the number of what it came to, and the bytes that it told.
 fn make<M: HostRuns>(
     place: &mut Place<M>,
-    call: Call<'_>,
+    call: DeskCall<'_>,
     said: &mut Vec<u8>,
 ) -> Result<(), Refusal>
     requires { HasRunAsMeant M.had M.means place.old call }
@@ -80,8 +80,8 @@ fn make<M: HostRuns>(
 /// Makes a pull, whose request is not written down.
 fn pull(place: &mut Place<Others>, body: &str, said: &mut Vec<u8>) -> Result<(), Refusal> {
     let mut request = Vec::new(said.allocator().clone()?);
-    drop(place.call(Call::Begin(Keep::At(0)), &mut request));
-    make(place, Call::End(0, body.as_bytes()), said)
+    drop(place.call(DeskCall::Begin(Keep::At(0)), &mut request));
+    make(place, DeskCall::End(0, body.as_bytes()), said)
 }
 
 fn whole(alloc: Global) -> Result<Scan, Refusal> {
@@ -96,27 +96,31 @@ fn sit(place: &mut Place<Others>, said: &mut Vec<u8>) -> Result<(), Refusal> {
     let Ok(id) = Uuid::parse_str(A) else {
         return Err(Refusal::BadShape);
     };
-    make(place, Call::Sit(&id), said)
+    make(place, DeskCall::Sit(&id), said)
 }
 
 fn polls(alloc: Global, place: &mut Place<Others>) -> Result<Vec<u8>, Refusal> {
     let mut said = Vec::new(alloc);
     sit(place, &mut said)?;
-    make(place, Call::Watch(Keep::AtNext, &whole(alloc)?), &mut said)?;
-    make(place, Call::PollChanges(0), &mut said)?;
+    make(
+        place,
+        DeskCall::Watch(Keep::AtNext, &whole(alloc)?),
+        &mut said,
+    )?;
+    make(place, DeskCall::PollChanges(0), &mut said)?;
     let body = r#"{"cookie":1,"lastMutationIDChanges":{},"patch":[
         {"op":"put","key":"b","value":2},{"op":"put","key":"a","value":1}]}"#;
     pull(place, body, &mut said)?;
-    make(place, Call::PollChanges(0), &mut said)?;
+    make(place, DeskCall::PollChanges(0), &mut said)?;
     let body = r#"{"cookie":2,"lastMutationIDChanges":{},"patch":[
         {"op":"put","key":"c","value":4},{"op":"put","key":"b","value":3},{"op":"del","key":"a"}]}"#;
     pull(place, body, &mut said)?;
-    make(place, Call::PollChanges(0), &mut said)?;
-    make(place, Call::PollChanges(0), &mut said)?;
-    make(place, Call::Poll(0), &mut said)?;
-    make(place, Call::PollChanges(1), &mut said)?;
-    make(place, Call::BeginRead, &mut said)?;
-    make(place, Call::PollChanges(0), &mut said)?;
+    make(place, DeskCall::PollChanges(0), &mut said)?;
+    make(place, DeskCall::PollChanges(0), &mut said)?;
+    make(place, DeskCall::Poll(0), &mut said)?;
+    make(place, DeskCall::PollChanges(1), &mut said)?;
+    make(place, DeskCall::BeginRead, &mut said)?;
+    make(place, DeskCall::PollChanges(0), &mut said)?;
     Ok(said)
 }
 
@@ -149,17 +153,17 @@ fn writes(alloc: Global, place: &mut Place<Others>) -> Result<Vec<u8>, Refusal> 
     writes.push(put(alloc, "c", "[3]")?)?;
     writes.push(put(alloc, "a", "1")?)?;
     sit(place, &mut said)?;
-    make(place, Call::DraftWrites(&writes), &mut said)?;
+    make(place, DeskCall::DraftWrites(&writes), &mut said)?;
     let asked = Mutate {
         name: &Text::new(alloc, "add")?,
         args: &Json::read(alloc, b"null")?,
         time: 0,
     };
-    make(place, Call::Mutate(asked), &mut said)?;
-    make(place, Call::DraftWrites(&writes), &mut said)?;
-    make(place, Call::DraftScan(&whole(alloc)?), &mut said)?;
-    make(place, Call::DraftWrites(&[]), &mut said)?;
-    make(place, Call::GiveUp, &mut said)?;
+    make(place, DeskCall::Mutate(asked), &mut said)?;
+    make(place, DeskCall::DraftWrites(&writes), &mut said)?;
+    make(place, DeskCall::DraftScan(&whole(alloc)?), &mut said)?;
+    make(place, DeskCall::DraftWrites(&[]), &mut said)?;
+    make(place, DeskCall::GiveUp, &mut said)?;
     Ok(said)
 }
 

@@ -5,13 +5,13 @@ ghost use Rattle.group_history.specs.Naming.{content_of};
 ghost use Rattle.group_history.specs.Refs.{stamp_of};
 ghost use Rattle.group_history.specs.Spelling.{map_at, version_at};
 
+use change_drafts::{
+    Setting, add_opening, add_patched, add_replayed, after_changes, base_at, look_at, run_pending,
+};
 use commit_graph::{CommitState, LentCommit, Nodes, VecNodes, cookie_of, dropped, state_of};
 use group_history::{Json, Mutation, PullOk, Ref, Refusal, Response, Stop, Text};
 use map_tree::{Chunks, Lent, Shelf};
 use pull_patch::read_response;
-use replays::{
-    Setting, add_opening, add_patched, add_replayed, after_changes, base_at, look_at, run_pending,
-};
 use script_mutators::ScriptMutators;
 use std::alloc::Global;
 use std::marker::Brand;

@@ -59,13 +59,17 @@ fn told_behind(
     })
 }
 
-/// How many nodes are shown for the rows of a map of 1,000 keys: at first, behind a change of one of them, back where
-/// they were, and there again. And how many rows there are.
-fn shown_behind(alloc: Global, change: &str) -> Result<([u64; 4], usize), Refusal> {
+/// How many nodes are shown for the rows of a map of 1,000 keys, or so many of them: at first, behind a change of one
+/// of them, back where they were, and there again. And how many rows there are.
+fn shown_behind(
+    alloc: Global,
+    limit: Option<u64>,
+    change: &str,
+) -> Result<([u64; 4], usize), Refusal> {
     let scan = Scan {
         prefix: Text::new(alloc, "k")?,
         start: Start::Any,
-        limit: None,
+        limit,
     };
     let (mut nodes, old) = with_keys(alloc, &[], 1_000)?;
     let first = told_behind(alloc, &nodes, old, &scan, untold(alloc)?)?;
@@ -80,12 +84,43 @@ fn shown_behind(alloc: Global, change: &str) -> Result<([u64; 4], usize), Refusa
     Ok(([at_first, behind, back, last.shown], last.rows.len()))
 }
 
+/// A pull that puts 0 at a key.
+fn change_of(alloc: Global, key: &str) -> Result<String, Refusal> {
+    Ok(format!(in alloc;
+        r#"{{"cookie":2,"lastMutationIDChanges":{{}},"patch":[{{"op":"put","key":"{key}","value":0}}]}}"#
+    )?)
+}
+
 // The map has 128 chunks, on three levels; and each time the commit is shown.
 #[test]
 fn a_scan_made_again_shows_new_chunks_alone(rt: HostRuntime) -> Result<(), Refusal> {
-    let change =
-        r#"{"cookie":2,"lastMutationIDChanges":{},"patch":[{"op":"put","key":"k500","value":0}]}"#;
-    let (shown, rows) = shown_behind(rt.alloc(), change)?;
+    let change = change_of(rt.alloc(), "k500")?;
+    let (shown, rows) = shown_behind(rt.alloc(), None, change.as_str())?;
+    assert_eq!(rt; shown, [129, 4, 4, 1]);
+    assert_eq!(rt; rows, 1_000);
+    Ok(())
+}
+
+// The first 100 rows lie in 12 leaves, below two chunks and the root. The limit cuts the last of these leaves, so it
+// and the two chunks above it have no spans: each time they are shown, and the commit.
+#[test]
+fn a_scan_with_a_limit_shows_also_what_is_cut(rt: HostRuntime) -> Result<(), Refusal> {
+    let first = change_of(rt.alloc(), "k05")?;
+    let (shown, rows) = shown_behind(rt.alloc(), Some(100), first.as_str())?;
+    assert_eq!(rt; shown, [16, 6, 6, 4]);
+    assert_eq!(rt; rows, 100);
+    let later = change_of(rt.alloc(), "k500")?;
+    let (shown, rows) = shown_behind(rt.alloc(), Some(100), later.as_str())?;
+    assert_eq!(rt; shown, [16, 4, 4, 4]);
+    assert_eq!(rt; rows, 100);
+    Ok(())
+}
+
+// A limit that isn't reached cuts nothing.
+#[test]
+fn a_scan_below_its_limit_shows_new_chunks_alone(rt: HostRuntime) -> Result<(), Refusal> {
+    let change = change_of(rt.alloc(), "k500")?;
+    let (shown, rows) = shown_behind(rt.alloc(), Some(2_000), change.as_str())?;
     assert_eq!(rt; shown, [129, 4, 4, 1]);
     assert_eq!(rt; rows, 1_000);
     Ok(())

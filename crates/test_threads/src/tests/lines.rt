@@ -2,7 +2,7 @@
 ghost use Rattle.script_parser.specs.Kept.{IsInRange};
 
 use script_mutators::ScriptMutators;
-use script_parser::{Asked, Header, Line, LineFault, LineReader, ScriptFault};
+use script_parser::{Header, Line, LineFault, LineKind, LineReader, ScriptFault};
 use script_runner::Clients;
 use std::alloc::{AllocError, Global};
 use std::sync::Wait;
@@ -44,7 +44,7 @@ fn begin(reader: &mut LineReader) -> Result<(), LineFault> {
 /// The first client's line.
 fn asked(reader: &mut LineReader) -> Result<Line, LineFault> {
     match reader.take(4, MUTATE)? {
-        Asked::Command(0, line) => Ok(line),
+        LineKind::Command(0, line) => Ok(line),
         _ => Err(LineFault::Script(ScriptFault::UnknownCommand)),
     }
 }

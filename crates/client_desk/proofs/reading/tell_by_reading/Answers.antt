@@ -1,5 +1,5 @@
 use Rattle.std.proofs.Common.{◌∙◌}
-use Rattle.group_steps.specs.Missing.{map_ok}
+use Rattle.change_tries.specs.Missing.{map_ok}
 use Rattle.client_desk.specs.declared.outcomes.Outcome.{Outcome}
 use Rattle.client_desk.specs.Told.{told}
 use Rattle.client_desk.proofs.Querying.{err_mapped, moment_mapped, ok_mapped}

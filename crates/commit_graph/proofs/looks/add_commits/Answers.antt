@@ -1,6 +1,6 @@
 use Rattle.std.proofs.Common.{[], ◌∷◌}
 use Rattle.std.proofs.lemmas.Result.{on_ok_weaker}
-use Rattle.commit_graph.specs.declared.founds.Found.TheVariants as found
+use Rattle.commit_graph.specs.declared.founds.NamedNode.TheVariants as found
 use Rattle.commit_graph.proofs.Findings.{adds_more}
 use Rattle.commit_graph.proofs.looks.add_commits.Goals as goal
 

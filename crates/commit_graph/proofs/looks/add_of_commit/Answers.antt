@@ -1,7 +1,7 @@
 use Rattle.std.proofs.Common.{[], ◌∷◌, map}
 use Rattle.std.proofs.lemmas.Result.{on_ok_weaker}
 use Rattle.group_history.specs.Naming.{commits_named}
-use Rattle.commit_graph.specs.declared.founds.Found.TheVariants as found
+use Rattle.commit_graph.specs.declared.founds.NamedNode.TheVariants as found
 use Rattle.commit_graph.proofs.Findings.{adds_more}
 use Rattle.commit_graph.proofs.looks.add_of_commit.Goals as goal
 

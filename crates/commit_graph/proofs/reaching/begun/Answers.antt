@@ -2,7 +2,7 @@ use Rattle.std.proofs.Common.{ℕ, inl, inr, List, [], ◌∷◌, sym, subst, �
 use Rattle.std.specs.List.{Contains}
 use Rattle.group_history.specs.Refs.{stamp_of}
 use Rattle.group_history.proofs.Lists.{no_element, one_here}
-use Rattle.commit_graph.specs.declared.founds.Found.{Found}
+use Rattle.commit_graph.specs.declared.founds.NamedNode.{NamedNode}
 use Rattle.commit_graph.specs.Inside.Reach.{stamp_in}
 use Rattle.commit_graph.proofs.reaching.begun.Goals as goal
 
@@ -14,7 +14,7 @@ returns c =
     (one_here root) in
     record {
       from = λ f h. elim (a.from f h) [
-        | inl p ↦ absurd (no_element f (subst (λ (w : List Found). Contains w f) c.in_ok-frontier.ensures.ahead p))
+        | inl p ↦ absurd (no_element f (subst (λ (w : List NamedNode). Contains w f) c.in_ok-frontier.ensures.ahead p))
         | inr q ↦ inr q
       ];
       kept = λ f h. absurd (no_element f h);

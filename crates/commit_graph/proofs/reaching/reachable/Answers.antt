@@ -4,7 +4,7 @@ use Rattle.std.proofs.lemmas.List.Elements.{Contains-append_right}
 use Rattle.group_history.specs.declared.refs.Ref.{Ref}
 use Rattle.group_history.specs.Refs.{stamp_of}
 use Rattle.group_history.proofs.Lists.{one_here, only_one, prefix_self}
-use Rattle.commit_graph.specs.declared.founds.Found.{Found}
+use Rattle.commit_graph.specs.declared.founds.NamedNode.{NamedNode}
 use Rattle.commit_graph.specs.Inside.Reach.{Walked}
 use Rattle.commit_graph.proofs.Chained.{some_version}
 use Rattle.commit_graph.proofs.Reached.{spelled_grown}
@@ -28,14 +28,14 @@ loop-at-init g c =
 pub visit-requires-clause-found : goal.visit-requires-clause-found
 visit-requires-clause-found g c =
     (c.loop-at.invariant.ahead c.in-Some.at
-    (subst (λ (w : List Found). Contains w c.in-Some.at) (sym c.in-Some.ensures.some)
+    (subst (λ (w : List NamedNode). Contains w c.in-Some.at) (sym c.in-Some.ensures.some)
     (Contains-append_right c.pop.new.self.ahead (c.in-Some.at ∷ []) c.in-Some.at (one_here c.in-Some.at)))).1
 
 pub loop-at-smaller : goal.loop-at-smaller
 loop-at-smaller g c =
     let m = g.N.Chunks.contents in
     let spelled = (c.loop-at.invariant.ahead c.in-Some.at
-    (subst (λ (w : List Found). Contains w c.in-Some.at) (sym c.in-Some.ensures.some)
+    (subst (λ (w : List NamedNode). Contains w c.in-Some.at) (sym c.in-Some.ensures.some)
     (Contains-append_right c.pop.new.self.ahead (c.in-Some.at ∷ []) c.in-Some.at (one_here c.in-Some.at)))).1 in
     elim c.in_ok-visit.ensures.visited [
       | inl p ↦ subst (λ (w : Walked). bound w.ahead < bound c.loop-at.frontier.ahead) (sym p.1)
@@ -44,8 +44,8 @@ loop-at-smaller g c =
       | inr q ↦ listing_falls (m c.visit.new.nodes) c.in-Some.at q.0
           (record { ahead = c.loop-at.frontier.ahead; met = q.1.met }) q.1 c.visit.new.frontier
           (spelled_grown (m c.loop-at.nodes) (m c.visit.new.nodes) c.in-Some.at c.visit.ensures.grown.0 spelled)
-          (c.in-Some.ensures.some ∙ ap (λ (w : List Found). w ++ c.in-Some.at ∷ []) (sym q.5.0))
-          (λ f h. c.in-Some.ensures.greatest f (subst (λ (w : List Found). Contains w f) q.5.0 h)) q.4 q.6
+          (c.in-Some.ensures.some ∙ ap (λ (w : List NamedNode). w ++ c.in-Some.at ∷ []) (sym q.5.0))
+          (λ f h. c.in-Some.ensures.greatest f (subst (λ (w : List NamedNode). Contains w f) q.5.0 h)) q.4 q.6
     ]
 
 pub loop-at-preserved : goal.loop-at-preserved
@@ -66,8 +66,8 @@ loop-at-preserved g c =
           (record { ahead = c.loop-at.frontier.ahead; met = q.1.met }) q.1 c.visit.new.frontier
           (listing_noted was may first two c.args.head root c.loop-at.listed.items c.loop-at.frontier c.pop.new.self q.1
           now c.pop.ensures.met q.5)
-          (c.in-Some.ensures.some ∙ ap (λ (w : List Found). w ++ c.in-Some.at ∷ []) (sym q.5.0)) refl
-          (λ f h. c.in-Some.ensures.greatest f (subst (λ (w : List Found). Contains w f) q.5.0 h)) q.2 q.3 q.4 q.6)
+          (c.in-Some.ensures.some ∙ ap (λ (w : List NamedNode). w ++ c.in-Some.at ∷ []) (sym q.5.0)) refl
+          (λ f h. c.in-Some.ensures.greatest f (subst (λ (w : List NamedNode). Contains w f) q.5.0 h)) q.2 q.3 q.4 q.6)
     ]
 
 pub returns-clause-exact : goal.returns-clause-exact
@@ -82,7 +82,7 @@ pub visit-requires-clause-places : goal.visit-requires-clause-places
 visit-requires-clause-places g c = (
   c.loop-at.invariant.wider c.args.part.root c.requires.places.1,
   c.loop-at.invariant.places_ahead c.in-Some.at
-      (subst (λ (w : List Found). Contains w c.in-Some.at) (sym c.in-Some.ensures.some)
+      (subst (λ (w : List NamedNode). Contains w c.in-Some.at) (sym c.in-Some.ensures.some)
       (Contains-append_right c.pop.new.self.ahead (c.in-Some.at ∷ []) c.in-Some.at (one_here c.in-Some.at))),
 )
 

@@ -1,5 +1,5 @@
 use Rattle.std.proofs.Common.{inr, length, refl}
-use Rattle.host_places.specs.declared.opening.Opening.{Opening}
+use Rattle.host_places.specs.declared.opening.GroupOpening.{GroupOpening}
 use Rattle.giqaymu_c.proofs.Opening.{fault_kept, zero_kept}
 use Rattle.giqaymu_c.specs.declared.jobs.Grounds.{Grounds}
 use Rattle.giqaymu_c.proofs.exports.giq_open.Goals as goal
@@ -7,7 +7,7 @@ use Rattle.giqaymu_c.proofs.exports.giq_open.Goals as goal
 pub returns-then-number-ne0-clause-why : goal.returns-then-number-ne0-clause-why
 returns-then-number-ne0-clause-why c = λ other.
     let a = c.args in
-    let w : Opening =
+    let w : GroupOpening =
     record { id = a.id; profile = a.profile; schema = a.schema; slots = a.slots; places = length a.places.now } in
     let grounds : Grounds = record { with = w; rules = a.rules; own = a.own } in
     inr (

@@ -1,7 +1,7 @@
 use Rattle.std.proofs.Common.{◌-◌, ◌+◌, inr, length, sym, subst, ◌∙◌, arith}
 use Rattle.std.specs.Prelude.{slice_set}
 use Rattle.std.proofs.lemmas.List.{length-set}
-use Rattle.giqaymu_c.specs.Exports.{AreNew}
+use Rattle.giqaymu_c.specs.Exports.{AreNewHandles}
 use Rattle.giqaymu_c.proofs.Giving.{gave_next, gave_none, more_new, still_new}
 use Rattle.giqaymu_c.proofs.exports.give_out.Goals as goal
 
@@ -17,7 +17,7 @@ loop-at-preserved c = record {
       did.1 did.2 c.if-reply-ne0.false in (
         still_new group commit terms (left - 1) (length c.args.places.now - (c.loop-at.at + 1)) c.act-next.result.0
             (omega arith) both.0,
-        subst (λ h. AreNew group commit terms (c.loop-at.at + 1) (slice_set c.loop-at.places c.loop-at.at h))
+        subst (λ h. AreNewHandles group commit terms (c.loop-at.at + 1) (slice_set c.loop-at.places c.loop-at.at h))
             (sym c.put.ensures) (more_new group commit terms c.loop-at.at c.loop-at.places c.act-next.result.1
             (omega (arith, c.loop-at-test.true, c.loop-at.invariant.count)) was.1 both.1),
       );

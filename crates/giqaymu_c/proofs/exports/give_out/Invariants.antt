@@ -1,6 +1,6 @@
 use Rattle.std.proofs.Common.{◌≡◌, length, ℕ, ◌-◌}
 use Rattle.rebase.specs.Clients.{Grouped}
-use Rattle.giqaymu_c.specs.Exports.{AreNew, Terms, IsNewPlace}
+use Rattle.giqaymu_c.specs.Exports.{AreNewHandles, Terms, IsNewPlace}
 use Rattle.giqaymu_c.proofs.exports.give_out.Given as goal
 
 abbrev pub invariant-loop-at : goal.invariant-loop-at
@@ -8,5 +8,6 @@ invariant-loop-at l = record {
   count : length l.places ≡ length l.fn.places;
   given : (group : Grouped) (commit : ℕ) (terms : Terms)
       → IsNewPlace group commit terms (length l.fn.places - 1) l.fn.first
-      → IsNewPlace group commit terms (length l.fn.places - l.at) l.first × AreNew group commit terms l.at l.places;
+      → IsNewPlace group commit terms (length l.fn.places - l.at) l.first
+      × AreNewHandles group commit terms l.at l.places;
 }

@@ -35,7 +35,7 @@ use Rattle.core.specs.contracts.marker.Brand as Brand
 use Rattle.std_heap.specs.contracts.Global as Heap
 use Rattle.std.proofs.raw_atomic.Walks.{proved_at, leaves}
 use Rattle.giqaymu_c.specs.Owned.{marker, spot_row, place_owns, held_owns}
-use Rattle.host_places.specs.declared.mutators.Picked as Picked
+use Rattle.host_places.specs.declared.mutators.NamesMutators as NamesMutators
 use Rattle.host_places.specs.Mutators.{Meant}
 use Rattle.giqaymu_c.specs.Exports.{IsLike}
 use Rattle.giqaymu_c.specs.Jobs.{Acts, IsFit, meant_at}
@@ -43,9 +43,9 @@ use Rattle.giqaymu_c.proofs.Values.{opaque, al, Held, ptr_good, marked, marked_g
 use Rattle.giqaymu_c.proofs.Values.{handle_in, handle_out, three, three_good, three_in}
 use Rattle.giqaymu_c.specs.contracts.handle.Handle as handle
 use Rattle.giqaymu_c.specs.contracts.jobs.Job as Job
-use Rattle.giqaymu_c.specs.contracts.jobs.Reply as Reply
+use Rattle.giqaymu_c.specs.contracts.jobs.JobReply as JobReply
 use Rattle.giqaymu_c.proofs.jobs.Job.TheLaws as job
-use Rattle.giqaymu_c.proofs.jobs.Reply.TheLaws as reply
+use Rattle.giqaymu_c.proofs.jobs.JobReply.TheLaws as reply
 use Rattle.giqaymu_c.specs.contracts.spots.act_held as callee
 use Rattle.giqaymu_c.proofs.spots.act_held.Met.{met}
 use Rattle.giqaymu_c.specs.contracts.handle.act.{ended, clauses}
@@ -88,7 +88,7 @@ act_spec {M} 𝓤 𝓛 𝓜 𝓡 wired =
     let κs = z.0.0 in let qs = z.0.1 in let h = z.0.3.0 in let a = z.0.3.1.0 in let x = z.0.3.1.1.0 in let vs = z.0.4 in
     let Jb : RattleType = Job.the_row (named_lft 1 0 tt κs) in
     let meant : Meant = meant_at h.text h.asks h.own in
-    let g : Picked.Ghosts marker.Denot = record { meant = meant } in
+    let g : NamesMutators.Ghosts marker.Denot = record { meant = meant } in
     let R : RattleType = spot_row h.text h.asks h.own in
     let Post : Val → SProp 𝓤 = (walk_of 𝓛 En hs c).post z in
     let Run : List Val → SProp 𝓤 = λ ws. WpFn 𝓤 H 𝓣.C 𝓣.Λ fn ws Post in
@@ -140,18 +140,18 @@ act_spec {M} 𝓤 𝓛 𝓜 𝓡 wired =
     (met 𝓤 𝓛 𝓜 𝓡 (code.calls-giqaymu_c::spots::act_held 𝓡.env wired) marker marker_laws g dict
     (λ 𝓛' 𝓜' 𝓡' like. record {}))
     y (and_then ! (get ! refl) (and_then ! (get ! refl) (and_then ! (get ! refl) (no_more !)))) (λ u.
-    let Did : (Held R).Denot × (Held R).Denot × (Reply.the_row).Denot
+    let Did : (Held R).Denot × (Held R).Denot × (JobReply.the_row).Denot
     → Type 0 = λ r. Acts x meant h.spot r.2 r.0.value r.1.value in
     use1 𝓛 (later
-    (some (λ (r : (Held R).Denot × (Held R).Denot × (Reply.the_row).Denot).
-    (toks ⊛ ‵ ((Tuple (Held R ∷ Held R ∷ Reply.the_row ∷ [])).own_val r (u ∷ []))) ⊛ some
+    (some (λ (r : (Held R).Denot × (Held R).Denot × (JobReply.the_row).Denot).
+    (toks ⊛ ‵ ((Tuple (Held R ∷ Held R ∷ JobReply.the_row ∷ [])).own_val r (u ∷ []))) ⊛ some
     (λ (ws : Lasts Ce y.0.0 y.0.3). ‵ (lasts Ce y.0.0 y.0.3 ws) ⊛ raw (fact 𝓤 (Did r))))))
     (id⊢ 𝓤 (k.post y u)) $
     await ! tt $ pick ! (λ r. split ! $ move ! (1 ∷ []) $ pick ! (λ ws. split ! $ drop ! $
     heard ! (Did r) (λ did. split ! $ move ! (1 ∷ []) $
     fpick ! (λ vss. fsplit ! $ feq_l ! (λ eu. fsplit ! $ held_out R ! r.0 vss.0 (λ flag₁ ws₁. move ! (1 ∷ []) $
     fsplit ! $ held_out R ! r.1 vss.1.0 (λ flag₂ ws₂. move ! (1 ∷ []) $ fsplit ! $
-    handle_tells (opaque Reply.the_row reply.the_row_laws) ! r.2 vss.1.1.0 (λ tv wsT fitsT.
+    handle_tells (opaque JobReply.the_row reply.the_row_laws) ! r.2 vss.1.1.0 (λ tv wsT fitsT.
     -- [what it came to; nothing; the second; the first; the tokens]
     let p₁ = r.0.at in let n₁ = r.0.is_open in let p₂ = r.1.at in let n₂ = r.1.is_open in
     let number₁ : Good (ty_int w64) (vint w64 n₁) = (tt, record { fits = flag₁ }) in
@@ -159,7 +159,7 @@ act_spec {M} 𝓤 𝓛 𝓜 𝓡 wired =
     let held₁ = marked_good R p₁ n₁ flag₁ in let held₂ = marked_good R p₂ n₂ flag₂ in
     let good₁ = handle_good p₁ n₁ flag₁ in let good₂ = handle_good p₂ n₂ flag₂ in
     lands_as ! (ap only (eu ∙ (λ j. vstruct (of_list (ws₁ j ++ (ws₂ j ++ (wsT j ++ [])))) ∷ []))) refl
-    (three_good (Held R) (Held R) Reply.the_row (marked p₁ n₁) (marked p₂ n₂) tv held₁ held₂ fitsT) $
+    (three_good (Held R) (Held R) JobReply.the_row (marked p₁ n₁) (marked p₂ n₂) tv held₁ held₂ fitsT) $
     sets ! (of_opd ! (get_in ! (fld ! refl (stop !)) (sub ! 0 refl (whole !)))) refl held₁ $
     sets ! (of_opd ! (get_in ! (fld ! refl (stop !)) (sub ! 1 refl (whole !)))) refl held₂ $
     sets ! (of_opd ! (get_in ! (fld ! refl (stop !)) (sub ! 2 refl (whole !)))) refl fitsT $
@@ -173,7 +173,7 @@ act_spec {M} 𝓤 𝓛 𝓜 𝓡 wired =
     sets ! (agg ! (and_then ! (get ! refl) (and_then ! (get ! refl) (no_more !)))) refl good₂ $
     sets ! (of_opd ! (get ! refl)) refl good₁ $ sets ! (of_opd ! (get ! refl)) refl good₂ $
     sets ! (agg ! (and_then ! (get ! refl) (and_then ! (get ! refl) (and_then ! (get ! refl) (no_more !))))) refl
-    (three_good handle.the_row handle.the_row Reply.the_row (marked p₁ n₁) (marked p₂ n₂) tv good₁ good₂ fitsT) $
+    (three_good handle.the_row handle.the_row JobReply.the_row (marked p₁ n₁) (marked p₂ n₂) tv good₁ good₂ fitsT) $
     let made₁ : (handle.the_row).Denot =
     record { at = p₁; is_open = n₁; text = h.text; asks = h.asks; own = h.own; spot = r.0.value } in
     let made₂ : (handle.the_row).Denot =
@@ -184,7 +184,7 @@ act_spec {M} 𝓤 𝓛 𝓜 𝓡 wired =
     r.1.value flag₂ $
     move ! (1 ∷ []) $ use1 𝓛 (‵ (place_owns h.text h.asks h.own n₁ p₁ r.0.value)) (id⊢ 𝓤 _) $
     handle_in ! p₁ n₁ h.text h.asks h.own r.0.value flag₁ $
-    three_in ! handle.the_row handle.the_row Reply.the_row made₁ made₂ r.2 (marked p₁ n₁) (marked p₂ n₂) tv $
+    three_in ! handle.the_row handle.the_row JobReply.the_row made₁ made₂ r.2 (marked p₁ n₁) (marked p₂ n₂) tv $
     use0 𝓛 (raw (fact 𝓤 Ensured)) (fact_i 𝓤 Ensured (emp 𝓤) ((refl, refl, refl), (refl, refl, refl), did)) $
     nothing ! $ nothing ! $ nothing ! $ nothing ! $ fjoin ! $ move ! (1 ∷ 0 ∷ []) $ fjoin ! $ move ! (1 ∷ 0 ∷ []) $
     fjoin ! $

@@ -5,7 +5,7 @@ use Rattle.std.proofs.lemmas.List.Elements.{All-push}
 use Rattle.head_word.specs.Marks.{HasSeat}
 use Rattle.map_chunks.proofs.ListLemmas.{succeeded}
 use Rattle.chunk_slots.specs.Seats.{IsIdle}
-use Rattle.commit_graph.specs.Seats.{IsSeatOf, Seated}
+use Rattle.commit_graph.specs.Seats.{IsSeatOf, SeatState}
 use Rattle.rebase.proofs.Seating.{handed_marks, handed_on, popped}
 use Rattle.rebase.proofs.seats.seat_all.Goals as goal
 
@@ -28,7 +28,7 @@ loop-mark-preserved g c =
           (All-push (IsSeatOf c.args.shared.now) c.loop-mark.free.items _ i.free (m.1.0, s.1.0));
       handed = handed_marks c.args.marks.items c.loop-mark.marks.items c.pop.new.self.items c.pop.result c.in-Some.mark
           c.loop-mark.free.items c.push.new.self.items _ c.pop.ensures.items c.in-Some.is more refl i.handed;
-      views = handed_on g.S.Slots.view (λ (w : Seated). w.view) (map g.S.Slots.view c.args.claimed.items)
+      views = handed_on g.S.Slots.view (λ (w : SeatState). w.view) (map g.S.Slots.view c.args.claimed.items)
           c.loop-mark.claimed.items c.pop-in-Some.new.self.items c.pop-in-Some.result c.in-Some-pop.slots
           c.loop-mark.free.items c.push.new.self.items _ c.pop-in-Some.ensures.items c.in-Some-pop.is more refl i.views;
       count = omega (arith, i.count, m.2, ap length more ∙ length_push c.loop-mark.free.items _);

@@ -5,9 +5,8 @@ use Rattle.group_history.proofs.Lists.{prefix_self}
 use Rattle.head_word.specs.Books.{drawn}
 use Rattle.head_word.specs.Marks.{Known}
 use Rattle.transactions.specs.Spans.{AreSpans}
-use Rattle.rebase.specs.Inside.Watching.{unlimited}
 use Rattle.rebase.specs.Readers.{read_by, seen_by}
-use Rattle.rebase.proofs.Polling.{all_told, if_none, spans_none, unwrapped}
+use Rattle.rebase.proofs.Polling.{if_none, spans_none, unwrapped}
 use Rattle.rebase.proofs.watching.read_first.Goals as goal
 
 pub returns-clause-rows : goal.returns-clause-rows
@@ -17,11 +16,10 @@ returns-clause-rows g c =
     let found = c.in_ok-others.ensures.found (drawn log) (prefix_self (drawn log))
     (spans_none scan (drawn log) told c.in_ok-none.none c.in_ok-none.ensures) in
     let before : c.new-before.result.items ≡ told = cc c.as_slice.ensures.value in
-    let xs : Rows = unlimited means log scan in
+    let xs : Rows = view_rows means (read_by c.args.tx.now) scan in
     unwrapped c.unwrap_or.result (λ rows. rows.items ≡ xs) c.in_ok-others.field-0.others c.new-before.result
     c.unwrap_or.ensures found.some
     (if_none c.in_ok-others.field-0.others (λ (is : told ≡ xs). before ∙ is) found.same)
-    ∙ all_told means (read_by c.args.tx.now) scan c.requires
 
 pub returns-clause-spans : goal.returns-clause-spans
 returns-clause-spans g c =
@@ -31,6 +29,4 @@ returns-clause-spans g c =
     (spans_none scan (drawn log) told c.in_ok-none.none c.in_ok-none.ensures) in
     let mark : c.mark.result.log ≡ log = ap (λ (k : Known). k.log) c.mark.ensures ∙ ap (λ (k : Known). k.log)
     c.point.ensures in
-    subst (λ w. AreSpans scan (drawn w) (view_rows means (read_by c.args.tx.now) scan) spans) (sym mark)
-    (subst (λ (rows : Rows). AreSpans scan (drawn log) rows spans)
-    (all_told means (read_by c.args.tx.now) scan c.requires) found.spans)
+    subst (λ w. AreSpans scan (drawn w) (view_rows means (read_by c.args.tx.now) scan) spans) (sym mark) found.spans

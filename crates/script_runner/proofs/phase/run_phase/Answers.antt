@@ -3,8 +3,8 @@ use denote.Param.{param}
 use denote.Param.Send.{arg_send, param_send}
 use denote.Param.SendFields.{as_row_send}
 use Rattle.std.proofs.Common.{rules, ℕ, ◌<◌, subst, length, slice_index_or}
-use Rattle.script_runner.specs.contracts.phase.Turn as turn_type
-use Rattle.script_runner.specs.declared.phase.Turn.{Turn}
+use Rattle.script_runner.specs.contracts.phase.ClientTurn as turn_type
+use Rattle.script_runner.specs.declared.phase.ClientTurn.{ClientTurn}
 use Rattle.script_parser.specs.Scripts.{lines_at}
 use Rattle.script_runner.specs.Inside.Turns.{IsTurn}
 use Rattle.script_runner.proofs.Sending.{turn_send}
@@ -22,7 +22,7 @@ returns g c =
     let means = g.M.Means.means in
     let old = c.args.turns.now in let new = c.for_each_mut.new.s in let said = c.args.phase.now in
     let sights = c.in_ok-sights.sights.items in
-    let turns : (i : ℕ) (d : Turn _) → i < length old
+    let turns : (i : ℕ) (d : ClientTurn _) → i < length old
     → IsTurn means sights (lines_at said.parts.items i) (slice_index_or old i d).client
     (slice_index_or new i d) = λ i d below.
     let w = (c.for_each_mut.ensures i d below).1 in

@@ -20,8 +20,10 @@ loop-other-preserved g c =
     let h = heard c.args.turn.now l.turn c.hear.new.turn c.other-item.result l.invariant.learnt sits c.hear.ensures in
     record {
       learnt = h.0;
-      seen = all-more (Covers c.hear.new.turn) c.args.others.now l.other-index c.other-item.result c.loop-other-test.true
-          c.other-item.is (still_covers l.turn c.hear.new.turn (take l.other-index c.args.others.now) h.1 l.invariant.seen)
+      seen = all-more (Covers c.hear.new.turn) c.args.others.now l.other-index c.other-item.result
+          c.loop-other-test.true
+          c.other-item.is (still_covers l.turn c.hear.new.turn (take l.other-index c.args.others.now) h.1
+          l.invariant.seen)
           h.2;
     }
 

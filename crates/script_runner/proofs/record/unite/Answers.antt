@@ -16,7 +16,8 @@ confirm_all-requires-clause-group g c b m =
 
 pub confirm_all-requires-clause-all : goal.confirm_all-requires-clause-all
 confirm_all-requires-clause-all g c b m =
-    All-rest IsSitting c.in-Some.first.now c.in-Some.others.now c.args.turns.now c.in-Some.ensures.cases.0 c.requires.all
+    All-rest IsSitting c.in-Some.first.now c.in-Some.others.now c.args.turns.now c.in-Some.ensures.cases.0
+    c.requires.all
 
 pub returns-in-Some : goal.returns-in-Some
 returns-in-Some g c = λ count commit seated many some.

@@ -3,7 +3,7 @@ use Rattle.std.proofs.lemmas.List.{take-map}
 use Rattle.std.proofs.lemmas.Result.{err_from_is_err_and}
 use Rattle.std.specs.List.{concat}
 use Rattle.script_runner.specs.Phases.{AreWritten}
-use Rattle.script_runner.specs.Runs.{IsWant}
+use Rattle.script_runner.specs.Runs.{IsRunWant}
 use Rattle.script_parser.specs.Scripts.{phase_said}
 use Rattle.script_runner.specs.Inside.Players.{players_of}
 use Rattle.script_runner.specs.Inside.Turns.{texts_of}
@@ -35,7 +35,7 @@ pub returns-in_err-write_phase-clause-want : goal.returns-in_err-write_phase-cla
 returns-in_err-write_phase-clause-want g c want =
     let l = c.loop-phase in let so_far = l.invariant.written in
     let p = err_from_is_err_and c.from_residual.result c.from_residual.ensures.1 in
-    let lacked = subst IsWant (p.1 ∙ ap (λ e. Err e) p.2) want in (
+    let lacked = subst IsRunWant (p.1 ∙ ap (λ e. Err e) p.2) want in (
       l.phase-index,
       so_far.0,
       players_of l.turns,

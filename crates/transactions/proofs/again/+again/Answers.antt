@@ -1,4 +1,4 @@
-use Rattle.std.proofs.Common.{[], ◌++◌, inl, inr, true, None, Some, ◌≡◌, ◌∙◌, ℕ, refl, ap, sym, subst, arith, length}
+use Rattle.std.proofs.Common.{[], inl, inr, true, Option, Some, ◌≡◌, ◌∙◌, ℕ, ap, sym, subst, arith, length}
 use Rattle.std.proofs.Common.{slice_get, slice_index_or}
 use Rattle.std.proofs.lemmas.List.{append-nil}
 use Rattle.std.proofs.lemmas.List.Elements.{Contains-get_or}
@@ -6,13 +6,13 @@ use Rattle.group_history.specs.declared.nodes.Chunk.{Chunk}
 use Rattle.group_history.specs.declared.refs.Ref.{Ref}
 use Rattle.group_history.specs.Naming.{chunk_children, chunk_content}
 use Rattle.group_history.specs.Refs.{stamp_of}
-use Rattle.group_history.specs.Rows.{Rows, paired, keys_of, values_of}
+use Rattle.group_history.specs.Rows.{paired, keys_of, values_of}
 use Rattle.group_history.proofs.Lists.{prefix_trans}
 use Rattle.group_history.proofs.Pairs.{paired-parts}
+use Rattle.map_chunks.specs.Inside.Scanning.{CanTake}
 use Rattle.map_chunks.specs.Places.{AreAll}
-use Rattle.map_chunks.specs.Scanning.{scanned, is_over}
+use Rattle.map_chunks.specs.Scanning.{Took, is_over, taken}
 use Rattle.map_chunks.specs.Shown.{IsTree, chunk_rows, rows_or}
-use Rattle.map_chunks.specs.Sinks.{HasMore}
 use Rattle.map_chunks.proofs.AnswerLemmas.{on_ok}
 use Rattle.map_chunks.proofs.CoverLemmas.{below}
 use Rattle.map_chunks.proofs.KeptLemmas.{grows_on}
@@ -22,73 +22,77 @@ use Rattle.map_chunks.proofs.ScanLemmas.{ref_rows, ref_turn, refs_known}
 use Rattle.map_chunks.proofs.SearchLemmas.{length-keys_of, length-values_of}
 use Rattle.map_chunks.proofs.WayLemmas.{leaf_is, rows_later}
 use Rattle.transactions.specs.Rescans.{Found, HasFound}
-use Rattle.transactions.proofs.SpanLemmas.{found_begun, found_ended, kept_more, leaf_more}
+use Rattle.transactions.proofs.SpanLemmas.{kept_more, leaf_more, shown_more}
 use Rattle.transactions.proofs.again.+again.Goals as goal
 
 pub take_child-returns-in-Some-clause-more : goal.take_child-returns-in-Some-clause-more
 take_child-returns-in-Some-clause-more g t c before all pre up spans tree =
-    let scan = c.args.scan.now in let told = g.B.PreviousRows.rows in let kept = c.in-Some.kept in
+    let scan = c.args.asked.scan.now in let told = g.B.PreviousRows.rows in let kept = c.in-Some.kept in
     let k = stamp_of c.args.at in let n = known (chunk_rows before k) tree in
+    let new = c.keep.new.self in let same = c.find.ensures.same in
     let stamp = c.in-Some.ensures.span.1 ∙ ap (λ (w : ℕ). Some w) c.stamp.ensures.stamp in
-    subst (λ w. HasMore (HasFound scan all) c.args.again.now c.keep.new.self (scanned scan (rows_or w))) (sym n.is)
-    (subst (λ (f : Found). HasMore (HasFound scan all) f c.keep.new.self (scanned scan n.rows)) c.find.ensures.same
-    (kept_more scan all told c.args.known.now kept.all.now kept.span k n.rows c.find.new.self c.keep.new.self spans
-    c.in-Some.ensures.span.0 stamp c.in-Some.ensures.all (chunk_rows-kept before all k n.rows up n.is)
-    c.in_ok-keep.ensures.rows c.in_ok-keep.ensures.spans))
+    let fits = subst (λ (f : Found). CanTake f.room kept.span.count) (sym same) c.in-Some.ensures.room in
+    subst (λ w. Took (HasFound scan all) c.args.again.now new c.args.again.now.room new.room
+    (taken scan c.args.again.now.room (rows_or w))) (sym n.is)
+    (subst (λ (f : Found). Took (HasFound scan all) f new f.room new.room (taken scan f.room n.rows)) same
+    (kept_more scan all told c.args.asked.known.now kept.all.now kept.span k n.rows c.find.new.self new spans
+    c.in-Some.ensures.span.0 stamp c.in-Some.ensures.all (chunk_rows-kept before all k n.rows up n.is) fits
+    c.in_ok-keep.ensures.rows c.in_ok-keep.ensures.room c.in_ok-keep.ensures.spans))
 
 pub take_child-returns-clause-more : goal.take_child-returns-clause-more
 take_child-returns-clause-more g t c = on_ok c.take_shown.result c.take_shown.ensures.more
     (λ more before all pre up spans tree.
-    subst (λ (f : Found). HasMore (HasFound c.args.scan.now all) f c.take_shown.new.again
-    (scanned c.args.scan.now (rows_or (chunk_rows before (stamp_of c.args.at))))) c.find.ensures.same
+    let new = c.take_shown.new.again in
+    subst (λ (f : Found). Took (HasFound c.args.asked.scan.now all) f new f.room new.room
+    (taken c.args.asked.scan.now f.room (rows_or (chunk_rows before (stamp_of c.args.at))))) c.find.ensures.same
     (more before all pre up spans tree))
 
 pub take_children-loop-place-init : goal.take_children-loop-place-init
 take_children-loop-place-init g t c =
-    let r = c.requires.1.1.1.1.1.1 in
     record {
       grown = (([], append-nil (g.C.Chunks.contents c.args.chunks.now)), λ at h. h);
       more = λ before all pre up spans tree.
           let n = refs_known before c.args.below.firsts.now c.args.below.children.now tree in
           pairs_begun (ref_rows before) c.args.below.firsts.now c.args.below.children.now c.place_of-place.result n.rows
-          c.args.scan.now c.args.low.now (HasFound c.args.scan.now all) c.args.again.now None r.1.0 n.is n.order
-          r.1.1.1 c.place_of-place.ensures;
+          c.args.asked.scan.now c.args.asked.low.now (HasFound c.args.asked.scan.now all) c.args.again.now
+          c.args.again.now.room c.requires.children n.is n.order c.requires.low c.place_of-place.ensures;
     }
 
 pub take_children-returns-then-is_over-clause-more : goal.take_children-returns-then-is_over-clause-more
 take_children-returns-then-is_over-clause-more g t c before all pre up spans tree =
-    let scan = c.args.scan.now in
+    let scan = c.args.asked.scan.now in
     let old = c.args.again.now in
     let new = c.loop-place.again in
     let n = refs_known before c.args.below.firsts.now c.args.below.children.now tree in
-    let took = pairs_over (ref_rows before) c.args.below.firsts.now c.args.below.children.now c.loop-place.place n.rows
-    scan (HasFound scan all) old new None None c.index-below-place.result c.requires.1.1.1.1.1.1.1.0 n.is n.order
-    c.loop-place-test.true c.index-below-place.is (c.loop-place.invariant.more before all pre up spans tree)
-    (subst (λ w. is_over scan None w ≡ true) (sym c.index-below-place.is)
-    (sym c.is_over.ensures ∙ c.if-is_over.true)) in
-    subst (λ w. HasMore (HasFound scan all) old new (scanned scan (rows_or w))) (sym n.is) took.rows
+    let key = slice_index_or c.args.below.firsts.now c.loop-place.place c.index-below-place.result in
+    let over = subst (λ (r : Option ℕ). is_over scan r key ≡ true) c.room.ensures
+    (sym c.is_over.ensures ∙ c.if-is_over.true) in
+    subst (λ w. Took (HasFound scan all) old new old.room new.room (taken scan old.room (rows_or w))) (sym n.is)
+    (pairs_over (ref_rows before) c.args.below.firsts.now c.args.below.children.now c.loop-place.place n.rows
+    scan (HasFound scan all) old new old.room new.room c.index-below-place.result c.requires.children n.is
+    n.order c.loop-place-test.true c.index-below-place.is
+    (c.loop-place.invariant.more before all pre up spans tree)
+    (subst (λ w. is_over scan new.room w ≡ true) (sym c.index-below-place.is) over))
 
 pub take_children-take_child-requires : goal.take_children-take_child-requires
 take_children-take_child-requires g t c κs ws =
     let p = g.C.Chunks.contents c.args.chunks.now in
-    let r = c.requires.1.1.1.1.1.1 in
-    let n = refs_known p c.args.below.firsts.now c.args.below.children.now r.1.1.0 in
+    let n = refs_known p c.args.below.firsts.now c.args.below.children.now c.requires.tree in
     let at = slice_index_or c.args.below.children.now c.loop-place.place (record { bits = 0 }) in
     let u = ref_turn p (g.C.Chunks.contents c.loop-place.chunks) c.args.below.firsts.now c.args.below.children.now
-    c.loop-place.place at c.loop-place.invariant.grown.0 r.1.0 n c.loop-place-test.true
+    c.loop-place.place at c.loop-place.invariant.grown.0 c.requires.children n c.loop-place-test.true
     (got_any c.args.below.children.now c.loop-place.place (record { bits = 0 }) at
-    (omega (arith, r.1.0, c.loop-place-test.true))) in
+    (omega (arith, c.requires.children, c.loop-place-test.true))) in
     let place = c.loop-place.invariant.grown.1 at
-    (c.requires.1.1.1.1.1.0 at (Contains-get_or c.args.below.children.now c.loop-place.place (record { bits = 0 })
-    (omega (arith, r.1.0, c.loop-place-test.true)))) in
-    (omega (arith, u.low, c.requires.1.0), (ws.0, (ws.1.0, (ws.1.1, (place, (u.tree, r.1.1.1))))))
+    (c.requires.places at (Contains-get_or c.args.below.children.now c.loop-place.place (record { bits = 0 })
+    (omega (arith, c.requires.children, c.loop-place-test.true)))) in
+    (omega (arith, u.low, c.decreases), (ws.0, (ws.1.0, (ws.1.1, (place, (u.tree, c.requires.low))))))
 
 pub take_children-loop-place-preserved : goal.take_children-loop-place-preserved
 take_children-loop-place-preserved g t c =
     let p = g.C.Chunks.contents c.args.chunks.now in
     let mid = g.C.Chunks.contents c.loop-place.chunks in
-    let scan = c.args.scan.now in
-    let r = c.requires.1.1.1.1.1.1 in
+    let scan = c.args.asked.scan.now in
     let at = slice_index_or c.args.below.children.now c.loop-place.place (record { bits = 0 }) in
     let grown = c.loop-place.invariant.grown in
     record {
@@ -97,47 +101,46 @@ take_children-loop-place-preserved g t c =
       more = λ before all pre up spans tree.
           let n = refs_known before c.args.below.firsts.now c.args.below.children.now tree in
           let u = ref_turn before before c.args.below.firsts.now c.args.below.children.now c.loop-place.place at
-          ([], append-nil before) r.1.0 n c.loop-place-test.true
+          ([], append-nil before) c.requires.children n c.loop-place-test.true
           (got_any c.args.below.children.now c.loop-place.place (record { bits = 0 }) at
-          (omega (arith, r.1.0, c.loop-place-test.true))) in
+          (omega (arith, c.requires.children, c.loop-place-test.true))) in
+          let old = c.loop-place.again in let new = c.take_child.new.again in
           pairs_child (ref_rows before) c.args.below.firsts.now c.args.below.children.now c.loop-place.place n.rows scan
-          (HasFound scan all) c.args.again.now c.loop-place.again c.take_child.new.again None None None u.turn
+          (HasFound scan all) c.args.again.now old new c.args.again.now.room old.room new.room u.turn
           (c.loop-place.invariant.more before all pre up spans tree)
-          (record {
-            rows = subst (λ w. HasMore (HasFound scan all) c.loop-place.again c.take_child.new.again
-                (scanned scan (rows_or w))) u.rows_are
-                (c.in_ok-take_child.ensures.more before all (prefix_trans before p mid pre grown.0) up spans u.tree);
-            room = refl;
-          });
+          (subst (λ w. Took (HasFound scan all) old new old.room new.room (taken scan old.room (rows_or w))) u.rows_are
+          (c.in_ok-take_child.ensures.more before all (prefix_trans before p mid pre grown.0) up spans u.tree));
     }
 
 pub take_children-returns-clause-more : goal.take_children-returns-clause-more
 take_children-returns-clause-more g t c before all pre up spans tree =
-    let scan = c.args.scan.now in
+    let scan = c.args.asked.scan.now in
     let n = refs_known before c.args.below.firsts.now c.args.below.children.now tree in
-    subst (λ w. HasMore (HasFound scan all) c.args.again.now c.loop-place.again (scanned scan w))
+    let old = c.args.again.now in let new = c.loop-place.again in
+    subst (λ w. Took (HasFound scan all) old new old.room new.room (taken scan old.room w))
     (pairs_all (ref_rows before) c.args.below.firsts.now c.args.below.children.now c.loop-place.place n.rows
-    c.requires.1.1.1.1.1.1.1.0 n.is (omega (arith, c.place_of-place.ensures.0)) ∙ ap rows_or (sym n.is))
-    (c.loop-place.invariant.more before all pre up spans tree).rows
+    c.requires.children n.is (omega (arith, c.place_of-place.ensures.0)) ∙ ap rows_or (sym n.is))
+    (c.loop-place.invariant.more before all pre up spans tree)
 
 pub take_chunk-returns-in-Leaf-clause-more : goal.take_chunk-returns-in-Leaf-clause-more
-take_chunk-returns-in-Leaf-clause-more g t c before all pre up spans tree rows h =
+take_chunk-returns-in-Leaf-clause-more g t c before all pre up spans tree =
     let now = g.C.Chunks.contents c.args.chunks.now in
-    let scan = c.args.scan.now in
+    let scan = c.args.asked.scan.now in
     let k = stamp_of c.args.at in
     let lies = subst (λ (ch : Chunk Ref). slice_get now k ≡ Some (chunk_content ch)) c.in-Leaf.is
-    c.requires.1.1.1.1.1.0.1 in
-    let leaf = leaf_is now k c.in-Leaf.leaf c.requires.1.1.1.1.1.1.0 lies in
+    c.requires.shown.1 in
+    let leaf = leaf_is now k c.in-Leaf.leaf c.requires.tree lies in
     let same : rows_or (chunk_rows before k) ≡ c.in-Leaf.leaf = ap rows_or
     (sym (rows_later before now k pre tree) ∙ leaf.0) in
     leaf_more scan all c.in-Leaf.leaf (rows_or (chunk_rows before k)) c.args.again.now c.take_leaf.new.self same
-    c.in_ok-take_leaf-in-Leaf.ensures.rows c.in_ok-take_leaf-in-Leaf.ensures.spans rows h
+    c.in_ok-take_leaf-in-Leaf.ensures.rows c.in_ok-take_leaf-in-Leaf.ensures.room
+    c.in_ok-take_leaf-in-Leaf.ensures.spans
 
 pub take_chunk-take_children-requires : goal.take_chunk-take_children-requires
 take_chunk-take_children-requires g t c κs ws =
     let p = g.C.Chunks.contents c.args.chunks.now in
-    let shown = c.requires.1.1.1.1.1.0 in
-    let tree = c.requires.1.1.1.1.1.1.0 in
+    let shown = c.requires.shown in
+    let tree = c.requires.tree in
     let kids = c.in-Inner.inner in
     let keys : c.as_slice.result.now
     ≡ keys_of kids = c.as_slice.ensures.keys ∙ c.deref.ensures ∙ c.firsts.ensures.keys in
@@ -147,7 +150,7 @@ take_chunk-take_children-requires g t c κs ws =
     (λ w. paired (keys_of kids) w) children ∙ paired-parts kids in
     let b = below p p (stamp_of c.args.at) c.args.chunk.now kids _ ([], append-nil p) tree shown.1 c.in-Inner.is
     pairs in (
-      omega (arith, b.low, c.requires.1.0),
+      omega (arith, b.low, c.decreases),
       (
         ws.0,
         (
@@ -164,7 +167,7 @@ take_chunk-take_children-requires g t c κs ws =
                   omega (arith, ap length keys, ap length children, length-keys_of kids, length-values_of kids),
                   (
                     subst IsTree (sym b.rows) tree,
-                    c.requires.1.1.1.1.1.1.1,
+                    c.requires.low,
                   ),
                 ),
               ),
@@ -177,7 +180,7 @@ take_chunk-take_children-requires g t c κs ws =
 pub take_chunk-returns-in-Inner-clause-more : goal.take_chunk-returns-in-Inner-clause-more
 take_chunk-returns-in-Inner-clause-more g t c =
     let p = g.C.Chunks.contents c.args.chunks.now in
-    let scan = c.args.scan.now in
+    let scan = c.args.asked.scan.now in
     let old = c.args.again.now in
     let new = c.take_children.new.again in
     let kids = c.in-Inner.inner in
@@ -188,9 +191,9 @@ take_chunk-returns-in-Inner-clause-more g t c =
     ≡ kids = ap (λ w. paired w c.children.result.now) keys ∙ ap
     (λ w. paired (keys_of kids) w) children ∙ paired-parts kids in
     on_ok c.take_children.result c.take_children.ensures.more (λ more before all pre up spans tree.
-    let b = below before p (stamp_of c.args.at) c.args.chunk.now kids _ pre tree c.requires.1.1.1.1.1.0.1 c.in-Inner.is
+    let b = below before p (stamp_of c.args.at) c.args.chunk.now kids _ pre tree c.requires.shown.1 c.in-Inner.is
     pairs in
-    subst (λ w. HasMore (HasFound scan all) old new (scanned scan (rows_or w))) b.rows
+    subst (λ w. Took (HasFound scan all) old new old.room new.room (taken scan old.room (rows_or w))) b.rows
     (more before all pre up spans (subst IsTree (sym b.rows) tree)))
 
 pub take_shown-take_chunk-answer-requires : goal.take_shown-take_chunk-answer-requires
@@ -198,8 +201,8 @@ take_shown-take_chunk-answer-requires g t c κs ws =
     let p = g.C.Chunks.contents c.args.chunks.now in
     let q = g.C.Chunks.contents c.show.new.self in
     let k = stamp_of c.args.at in
-    let tree = c.requires.1.1.1.1.1.1.0 in (
-      omega (arith, c.requires.1.0),
+    let tree = c.requires.tree in (
+      omega (arith, c.decreases),
       (
         ws.0,
         (
@@ -215,7 +218,7 @@ take_shown-take_chunk-answer-requires g t c κs ws =
               ),
               (
                 subst IsTree (sym (rows_later p q k c.show.ensures.grown.0 tree)) tree,
-                c.requires.1.1.1.1.1.1.1,
+                c.requires.low,
               ),
             ),
           ),
@@ -224,23 +227,23 @@ take_shown-take_chunk-answer-requires g t c κs ws =
     )
 
 pub take_shown-returns-clause-more : goal.take_shown-returns-clause-more
-take_shown-returns-clause-more g t c before all pre up spans tree rows h =
+take_shown-returns-clause-more g t c before all pre up spans tree =
     let p = g.C.Chunks.contents c.args.chunks.now in
     let q = g.C.Chunks.contents c.show.new.self in
-    let scan = c.args.scan.now in
+    let scan = c.args.asked.scan.now in
     let k = stamp_of c.args.at in
     let n = known (chunk_rows before k) tree in
-    let begun = found_begun scan all c.args.again.now c.begin.new.self rows c.in_ok-begun.ensures.rows
-    c.in_ok-begun.ensures.spans h in
-    let more = c.in_ok-answer.ensures.more before all (prefix_trans before p q pre c.show.ensures.grown.0) up spans tree
-    rows begun in
-    let here : Rows = n.rows in
-    let taken = c.take_chunk-answer.new.again in
-    let mid = subst (λ w. HasFound scan all taken (rows ++ scanned scan (rows_or w))) n.is more in
-    subst (λ w. HasFound scan all c.end.new.self (rows ++ scanned scan (rows_or w))) (sym n.is)
-    (found_ended scan all k c.in_ok-begun.begun.from here rows taken c.end.new.self
-    (chunk_rows-kept before all k here up n.is) (c.in_ok-begun.ensures.from ∙ ap length h.taken) c.end.ensures.rows
+    let old = c.args.again.now in
+    let begun = c.begin.new.self in
+    let mid = c.take_chunk-answer.new.again in
+    let new = c.end.new.self in
+    let more = subst (λ w. Took (HasFound scan all) begun mid begun.room mid.room (taken scan begun.room (rows_or w)))
+    n.is (c.in_ok-answer.ensures.more before all (prefix_trans before p q pre c.show.ensures.grown.0) up spans tree) in
+    subst (λ w. Took (HasFound scan all) old new old.room new.room (taken scan old.room (rows_or w))) (sym n.is)
+    (shown_more scan all k c.in_ok-begun.begun.from n.rows old begun mid new
+    (chunk_rows-kept before all k n.rows up n.is) c.in_ok-begun.ensures.from c.in_ok-begun.ensures.rows
+    c.in_ok-begun.ensures.room c.in_ok-begun.ensures.spans more c.end.ensures.rows c.end.ensures.room
     (λ s m. elim (c.end.ensures.spans s m) [
       | inl x ↦ inl x
-      | inr y ↦ inr (y.0 ∙ ap (λ (w : ℕ). Some w) c.stamp.ensures.stamp, y.1, y.2)
-    ]) mid)
+      | inr y ↦ inr (y.0 ∙ ap (λ (w : ℕ). Some w) c.stamp.ensures.stamp, y.1, y.2, y.3)
+    ]))

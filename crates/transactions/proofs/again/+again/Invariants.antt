@@ -1,4 +1,4 @@
-use Rattle.std.proofs.Common.{◌+◌, ◌*◌, None}
+use Rattle.std.proofs.Common.{◌+◌, ◌*◌}
 use mathlib.Core.List.{IsPrefix}
 use Rattle.group_history.specs.Refs.{stamp_of}
 use Rattle.group_history.specs.Rows.{paired}
@@ -29,8 +29,9 @@ invariant-take_children-loop-place g l =
     record {
       grown : Grows g.C.Chunks.contents g.C.Chunks.places l.fn.chunks l.chunks;
       more : (before all : Contents) → IsPrefix before (g.C.Chunks.contents l.fn.chunks) → IsPrefix before all
-          → AreSpans l.scan all g.B.PreviousRows.rows l.known
+          → AreSpans l.asked.scan.now all g.B.PreviousRows.rows l.asked.known.now
           → IsTree (children_rows before (paired l.below.firsts.now l.below.children.now))
-          → Took (HasFound l.scan all) l.fn.again l.again None None (taken l.scan None
+          → Took (HasFound l.asked.scan.now all) l.fn.again l.again l.fn.again.room l.again.room
+          (taken l.asked.scan.now l.fn.again.room
           (first_rows (ref_rows before) (paired l.below.firsts.now l.below.children.now) l.place));
     }

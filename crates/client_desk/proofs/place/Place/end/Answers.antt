@@ -3,11 +3,11 @@ use Rattle.std.specs.Prelude.{⊤}
 use Rattle.group_history.specs.declared.changes.Change.TheVariants.{Pulled}
 use Rattle.group_history.specs.declared.responses.Response.TheVariants as response
 use Rattle.group_history.specs.Pull.{Pull}
-use Rattle.group_steps.specs.Missing.{map_ok}
+use Rattle.change_tries.specs.Missing.{map_ok}
 use Rattle.pull_patch.specs.Grammar.{answer_to}
 use Rattle.rebase.specs.Replies.{reply_seen}
-use Rattle.rebase.specs.Running.{EndsPull, IsAsked, IsFirst, IsUnwritten, UnderWay}
-use Rattle.client_desk.specs.declared.faults.Fault.TheVariants as fault
+use Rattle.rebase.specs.Running.{EndsPull, IsAsked, IsFirstAsked, IsUnwritten, UnderWay}
+use Rattle.client_desk.specs.declared.faults.CallFault.TheVariants as fault
 use Rattle.client_desk.specs.Answers.{At, tries}
 use Rattle.client_desk.specs.Drafts.{AsksToEnd}
 use Rattle.client_desk.specs.Kept.{kept_at}
@@ -44,10 +44,10 @@ returns g c =
     (at_some (kept_at b.tickets n) fault.NoTicket (λ kept. AsksToEnd has means client kept body) kept b t new
     (ticket_kept _ c.take.new.self b c.deref.result.now n kept c.in-Some.ensures c.deref.ensures.value c.self.view_is
     taken.left)
-    (stood step.result (λ a. asks a × IsFirst has a × IsUnwritten has a)
+    (stood step.result (λ a. asks a × IsFirstAsked has a × IsUnwritten has a)
     (λ next reply. EndsPull means ⊤ tries client next kept.cookie body reply) b c.take.new.self new t taken.seat
     taken.reading taken.left
-    (tells_all step.result asks (IsFirst has) (IsUnwritten has)
+    (tells_all step.result asks (IsFirstAsked has) (IsUnwritten has)
     (λ next reply. EndsPull means ⊤ tries client next kept.cookie body (map_ok reply_seen reply)) step.ensures.told
-    (told_by step.result (λ h. IsFirst h) _ has laws.same step.ensures.first)
+    (told_by step.result (λ h. IsFirstAsked h) _ has laws.same step.ensures.first)
     (told_by step.result (λ h. IsUnwritten h) _ has laws.same step.ensures.fresh)) c.go_on.ensures))

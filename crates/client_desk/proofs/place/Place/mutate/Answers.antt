@@ -1,7 +1,7 @@
 use Rattle.std.specs.Prelude.{⊤}
-use Rattle.group_steps.specs.Missing.{map_ok}
+use Rattle.change_tries.specs.Missing.{map_ok}
 use Rattle.rebase.specs.Replies.{reply_seen}
-use Rattle.rebase.specs.Running.{EndsCall, IsAsked, IsFirst, IsUnwritten}
+use Rattle.rebase.specs.Running.{EndsCall, IsAsked, IsFirstAsked, IsUnwritten}
 use Rattle.client_desk.specs.Answers.{tries}
 use Rattle.client_desk.specs.Drafts.{AsksToMutate, mutation_of}
 use Rattle.client_desk.specs.Told.{told_alone}
@@ -28,10 +28,10 @@ returns-in-Client g c =
     let t = told_alone c.go_on.result in let step = c.ask_mutate-step in
     by_client (λ b. AsksToMutate has means b x.name.now x.args.now x.time) client c.args.self.now c.go_on.new.self t
     taken.client
-    (stood step.result (λ a. IsAsked means ⊤ tries client change a × IsFirst has a × IsUnwritten has a)
+    (stood step.result (λ a. IsAsked means ⊤ tries client change a × IsFirstAsked has a × IsUnwritten has a)
     (λ next reply. EndsCall means ⊤ tries client next change reply) c.args.self.now c.take.new.self c.go_on.new.self t
     taken.seat taken.reading taken.left
-    (tells_all step.result (IsAsked means ⊤ tries client change) (IsFirst has) (IsUnwritten has)
+    (tells_all step.result (IsAsked means ⊤ tries client change) (IsFirstAsked has) (IsUnwritten has)
     (λ next reply. EndsCall means ⊤ tries client next change (map_ok reply_seen reply)) step.ensures.told
-    (told_by step.result (λ h. IsFirst h) _ has laws.same step.ensures.first)
+    (told_by step.result (λ h. IsFirstAsked h) _ has laws.same step.ensures.first)
     (told_by step.result (λ h. IsUnwritten h) _ has laws.same step.ensures.fresh)) c.go_on.ensures)

@@ -1,6 +1,6 @@
 use Rattle.rebase.specs.Running.{Follows, IsUnwritten}
-use Rattle.client_desk.specs.Drafts.{GoesOn}
-use Rattle.client_desk.specs.Runs.{AsksNext, EndsRuns}
+use Rattle.client_desk.specs.Drafts.{GoesOnRun}
+use Rattle.client_desk.specs.Runs.{AsksNextRun, EndsRuns}
 use Rattle.client_desk.specs.Told.{told_alone}
 use Rattle.client_desk.proofs.Asking.{step_behind, stood, tells_next, told_by}
 use Rattle.client_desk.proofs.Moving.{by_run}
@@ -20,8 +20,8 @@ returns-in-Asking g c =
     let has = g.M.Hosted.had in let means = g.M.Means.means in let a = c.in-Asking.asking in
     let taken = c.in-Asking.ensures in
     let ran = c.args.ran in let t = told_alone c.go_on.result in
-    by_run (GoesOn has means ran) a c.args.self.now c.go_on.new.self t taken.asking
-    (stood c.ran-step.result (AsksNext has means a ran) (EndsRuns means a) c.args.self.now c.take.new.self
+    by_run (GoesOnRun has means ran) a c.args.self.now c.go_on.new.self t taken.asking
+    (stood c.ran-step.result (AsksNextRun has means a ran) (EndsRuns means a) c.args.self.now c.take.new.self
     c.go_on.new.self t taken.seat taken.reading taken.left
     (tells_next has means c.ran-step.result a ran c.ran-step.ensures.told
     (told_by c.ran-step.result (λ h. Follows h means a ran) _ has laws.same c.ran-step.ensures.next)

@@ -1,14 +1,14 @@
 use Rattle.std.proofs.Common.{refl, sym, ap, ◌∙◌, subst}
-use Rattle.answered.specs.Changes.{change_read}
-use Rattle.group_steps.specs.Leaving.{FreesAnew}
-use Rattle.group_steps.specs.Missing.{map_ok}
+use Rattle.linearized.specs.Changes.{change_read}
+use Rattle.change_tries.specs.Leaving.{FreesAnew}
+use Rattle.change_tries.specs.Missing.{map_ok}
 use Rattle.pull_patch.specs.Grammar.{answer_to}
 use Rattle.rebase.specs.Asking.{change_wanted}
 use Rattle.rebase.specs.Calls.{caller_of}
 use Rattle.rebase.specs.Replies.{ended}
 use Rattle.rebase.specs.declared.calls.Call.TheVariants as changing
 use Rattle.rebase.proofs.CallLemmas.{ended_shown, ended_told}
-use Rattle.client_desk.specs.declared.faults.Fault.TheVariants as fault
+use Rattle.client_desk.specs.declared.faults.CallFault.TheVariants as fault
 use Rattle.rebase.specs.declared.tickets.Ticket.{Ticket}
 use Rattle.client_desk.specs.Answers.{At, Rule}
 use Rattle.client_desk.specs.Kept.{kept_at}

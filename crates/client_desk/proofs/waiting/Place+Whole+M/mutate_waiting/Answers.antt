@@ -1,8 +1,8 @@
 use Rattle.std.proofs.Common.{◌≡◌, Some, refl, sym, ap, ◌∙◌, subst}
-use Rattle.answered.specs.Changes.{change_made}
+use Rattle.linearized.specs.Changes.{change_made}
 use Rattle.group_history.specs.declared.changes.Change.TheVariants.{Mutated}
-use Rattle.group_steps.specs.Leaving.{FreesAnew}
-use Rattle.group_steps.specs.Missing.{map_ok}
+use Rattle.change_tries.specs.Leaving.{FreesAnew}
+use Rattle.change_tries.specs.Missing.{map_ok}
 use Rattle.rebase.specs.Calls.{asked_mutation, caller_of}
 use Rattle.rebase.specs.Replies.{id}
 use Rattle.rebase.specs.declared.calls.Call.TheVariants as changing

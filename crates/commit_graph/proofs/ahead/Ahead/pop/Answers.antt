@@ -6,7 +6,7 @@ use Rattle.std.specs.BTreeMap.Range.{IsLtBy}
 use Rattle.std.specs.declared.cmp.Ordering.TheVariants.{Less}
 use Rattle.std.proofs.lemmas.List.Elements.{All-contains, Contains-append_cases}
 use Rattle.group_history.proofs.Lists.{no_element}
-use Rattle.commit_graph.specs.declared.founds.Found.{Found}
+use Rattle.commit_graph.specs.declared.founds.NamedNode.{NamedNode}
 use Rattle.commit_graph.specs.Inside.Chains.{listed}
 use Rattle.commit_graph.specs.Inside.Reach.{AreKeyed, stamp_in}
 use Rattle.commit_graph.proofs.Chained.{none_from}
@@ -19,13 +19,13 @@ returns-clause-greatest c other h =
     let es = c.pop_last.new.self.entries in
     let none = none_from c.self.inside.top c.in_default.not-Some in
     let inside : Contains (nodes_in es) other = elim (Contains-append_cases (nodes_in es) [] other
-    (subst (λ (o : Option Found). Contains (nodes_in es ++ listed o) other) none h)) [
+    (subst (λ (o : Option NamedNode). Contains (nodes_in es ++ listed o) other) none h)) [
       | inl p ↦ p
       | inr q ↦ absurd (no_element other q)
     ] in
     let k = keyed_last es (c.in_ok-found.field-0-0, c.in_ok-found.found)
     (subst AreKeyed c.in_ok-found.ensures.removal c.self.invariant.0) in
     let low = ranked (stamp_in other) c.in_ok-found.field-0-0 Less
-    (sym (All-contains (λ q. IsLtBy nat_cmp q c.in_ok-found.field-0-0) (map (λ (e : ℕ × Found). e.0) es)
+    (sym (All-contains (λ q. IsLtBy nat_cmp q c.in_ok-found.field-0-0) (map (λ (e : ℕ × NamedNode). e.0) es)
     (stamp_in other) c.in_ok-found.ensures.all_below (keyed_at es other k.0 inside))) in
     subst (λ (n : ℕ). stamp_in other < n) k.1 low

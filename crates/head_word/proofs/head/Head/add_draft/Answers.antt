@@ -2,7 +2,7 @@ use Rattle.std.proofs.Common.{◌≡◌, ◌+◌, ◌≤◌, ◌++◌, [], ◌�
 use Rattle.std.proofs.Common.{if◌then◌else◌, MatchBool, nat_eq}
 use Rattle.group_history.specs.Refs.{stamps}
 use Rattle.head_word.specs.declared.entry.Entry.{Entry}
-use Rattle.head_word.specs.declared.mark.Seat.{Seat}
+use Rattle.head_word.specs.declared.mark.MarkSeat.{MarkSeat}
 use Rattle.head_word.specs.Books.{next_stamp, drafted, AreAfter}
 use Rattle.head_word.specs.Tallies.{key_of, mine}
 use Rattle.head_word.specs.Marks.{Known, own, own_of}
@@ -70,6 +70,6 @@ returns-clause-own g c =
     told gain.2 step.6
     (subst (λ (e : Entry). MatchBool won (Adds drafts_say g.M.Means.means (record t { ask = e }))
     (Misses drafts_say (record t { ask = e }))) offer.1 step.7.outcome) in
-    let placed = subst (λ (s : Option Seat). mine (suc number) log'
+    let placed = subst (λ (s : Option MarkSeat). mine (suc number) log'
     ≡ own_of (number_of s) log ++ (if won then ask ∷ [] else [])) (sym seat_is) own' in
     subst (λ (m : Known). mine (suc number) log' ≡ own m ++ (if won then ask ∷ [] else [])) c.mark.view_is placed

@@ -2,7 +2,7 @@ use Rattle.std.proofs.Common.{◌≡◌, ◌≢◌, ◌++◌, [], ◌∷◌, Lis
 use Rattle.std.proofs.Common.{if◌then◌else◌, MatchBool, nat_eq, arith}
 use mathlib.Core.List.{IsPrefix}
 use Rattle.head_word.specs.declared.entry.Entry.{Entry}
-use Rattle.head_word.specs.declared.mark.Seat.{Seat}
+use Rattle.head_word.specs.declared.mark.MarkSeat.{MarkSeat}
 use Rattle.head_word.specs.Books.{drawn, last_move, moved, IsChangeFrom, IsOpened}
 use Rattle.head_word.specs.Tallies.{mine}
 use Rattle.head_word.specs.Marks.{Known, own, own_of}
@@ -64,7 +64,7 @@ returns-clause-own g c =
     told gain.2 step.6
     (subst (λ (e : Entry). MatchBool won (Adds head_says g.M.Means.means (record t { ask = e }))
     (Misses head_says (record t { ask = e }))) offer.1 step.7.outcome) in
-    let placed = subst (λ (s : Option Seat). mine (suc number) log'
+    let placed = subst (λ (s : Option MarkSeat). mine (suc number) log'
     ≡ own_of (number_of s) log ++ (if won then moved (number_of s) c.args.new c.args.change.now
     ∷ [] else [])) (sym seat_is) own' in
     subst (λ (m : Known). mine (suc number) log'

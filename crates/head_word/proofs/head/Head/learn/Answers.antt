@@ -1,7 +1,7 @@
 use Rattle.std.proofs.Common.{◌≡◌, sym, ◌∙◌, ap, subst, Some, Option, suc, []}
 use mathlib.Core.List.{IsPrefix}
 use Rattle.head_word.specs.declared.entry.Entry.{Entry}
-use Rattle.head_word.specs.declared.mark.Seat.{Seat}
+use Rattle.head_word.specs.declared.mark.MarkSeat.{MarkSeat}
 use Rattle.head_word.specs.Books.{drafted}
 use Rattle.head_word.specs.Tallies.{key_of, count}
 use Rattle.head_word.specs.Marks.{Known, own, own_of}
@@ -58,4 +58,4 @@ returns-clause-own g c =
     let pre = prefix_trans log c.learn-2.new.self.log log' c.learn-2.ensures.2 load.5 in
     own_same (suc number) c.in-Some.seat.tally.count log log' pre sits.count_is c.into_gain.result.answer
     (count (suc number) log') (sym gain.2 ∙ counted) told
-    ∙ (sym (ap (λ (s : Option Seat). own_of (number_of s) log) seat_is) ∙ ap own c.mark.view_is)
+    ∙ (sym (ap (λ (s : Option MarkSeat). own_of (number_of s) log) seat_is) ∙ ap own c.mark.view_is)

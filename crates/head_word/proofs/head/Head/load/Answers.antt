@@ -1,6 +1,6 @@
 use Rattle.std.proofs.Common.{rules, ◌≡◌, sym, ◌∙◌, ap, subst, Some, Option, suc, []}
 use Rattle.head_word.specs.declared.entry.Entry.{Entry}
-use Rattle.head_word.specs.declared.mark.Seat.{Seat}
+use Rattle.head_word.specs.declared.mark.MarkSeat.{MarkSeat}
 use Rattle.head_word.specs.Books.{drafted}
 use Rattle.head_word.specs.Tallies.{key_of, count}
 use Rattle.head_word.specs.Marks.{Known, own, own_of}
@@ -41,7 +41,7 @@ returns-in-Some-clause-own g c =
     ≡ Some (answer (count (key_of e) log') (count (key_of e) log'))) offer.1 load.6.1.counted in
     own_same (suc number) c.in-Some.seat.tally.count log log' load.5 sits.count_is c.into_gain.result.answer
     (count (suc number) log') (sym gain.2 ∙ counted) told
-    ∙ (sym (ap (λ (s : Option Seat). own_of (number_of s) log) seat_is) ∙ ap own c.mark.view_is)
+    ∙ (sym (ap (λ (s : Option MarkSeat). own_of (number_of s) log) seat_is) ∙ ap own c.mark.view_is)
 
 pub returns-in-Some-clause-last : goal.returns-in-Some-clause-last
 returns-in-Some-clause-last g c = search rules

@@ -1,12 +1,12 @@
 use Rattle.std.proofs.Common.{◌≡◌, ℕ, ap, rules, sym, subst, ◌∙◌}
 use Rattle.std.specs.Arc.{arc_value}
-use Rattle.commit_graph.specs.Seats.{IsSameSeat, Seated}
+use Rattle.commit_graph.specs.Seats.{IsSameSeat, SeatState}
 use Rattle.commit_graph.proofs.Seating.{seat-trans}
-use Rattle.group_steps.specs.Missing.{map_ok}
-use Rattle.group_steps.specs.Proposing.{AsksNext}
-use Rattle.group_steps.specs.Tries.{Follows as FollowsRun}
-use Rattle.group_steps.specs.Tries.{IsArrivedSince, TellsProgress}
-use Rattle.rebase.specs.Asked.{Tells}
+use Rattle.change_tries.specs.Missing.{map_ok}
+use Rattle.change_tries.specs.Proposing.{AsksNext}
+use Rattle.change_tries.specs.Tries.{FollowsRun}
+use Rattle.change_tries.specs.Tries.{IsArrivedSince, TellsProgress}
+use Rattle.rebase.specs.Asked.{TellsAsked}
 use Rattle.rebase.specs.Clients.{ClientState, grouped}
 use Rattle.rebase.specs.Replies.{reply_seen}
 use Rattle.rebase.specs.Running.{BeganAs, EndsCall, Follows, IsAsked, UnderWay}
@@ -34,7 +34,7 @@ returns-clause-told g c before began =
     let seat = ap (λ (w : ClientState). w.seat) c.client.view_is in
     let id : k.last ≡ a.client.last = search rules in
     let b = subst (BeganAs means reused before) (sym c.self.view_is) began in
-    subst (λ (w : UnderWay). Tells c.go_on.result (IsAsked means reused w.tries before w.change)
+    subst (λ (w : UnderWay). TellsAsked c.go_on.result (IsAsked means reused w.tries before w.change)
     (λ client reply. EndsCall means reused w.tries before client w.change (map_ok reply_seen reply)))
     c.self.view_is (c.go_on.ensures.told before (
       ap (λ (w : ClientState). w.group) c.client.view_is ∙ b.client.0,
@@ -42,9 +42,9 @@ returns-clause-told g c before began =
     )
     (ap (λ (w : ClientState). w.last) c.client.view_is ∙ b.last)
     (seat-trans before.seat a.client.seat new b.since.same
-    (subst (λ (w : Seated). IsSameSeat w new) seat e.seat))
+    (subst (λ (w : SeatState). IsSameSeat w new) seat e.seat))
     (subst (λ (n : ℕ). TellsProgress means reused a.tries before.seat new n a.change p) (id ∙ b.last)
-    (e.told before.seat (subst (λ (w : Seated). IsArrivedSince means reused before.seat a.attempt.lost a.change
+    (e.told before.seat (subst (λ (w : SeatState). IsArrivedSince means reused before.seat a.attempt.lost a.change
     a.attempt.arrival.seen.log w) (sym seat) b.since))))
 
 pub returns-clause-next : goal.returns-clause-next
@@ -57,9 +57,9 @@ returns-clause-next g c =
       id = k.id;
       last = k.last;
     } in
-    subst (λ (w : UnderWay). Tells c.go_on.result (Follows g.M.Has.has g.M.Means.means w c.args.ran)
+    subst (λ (w : UnderWay). TellsAsked c.go_on.result (Follows g.M.Has.has g.M.Means.means w c.args.ran)
     (λ client reply. Unit {0})) c.self.view_is
     (next_shown g.M.Has.has g.M.Means.means a.client client a.change a.tries a.attempt c.args.ran p c.go_on.result
     c.go_on.ensures.shown
-    (subst (λ (w : Seated). FollowsRun g.M.Has.has g.M.Means.means w new a.attempt c.args.ran a.change p)
+    (subst (λ (w : SeatState). FollowsRun g.M.Has.has g.M.Means.means w new a.attempt c.args.ran a.change p)
     (ap (λ (w : ClientState). w.seat) c.client.view_is) c.ran_from-progress.ensures.next))

@@ -1,11 +1,11 @@
 use Rattle.std.proofs.Common.{◌≡◌, ℕ, ap, rules, subst, sym}
 use Rattle.std.specs.Arc.{arc_value}
-use Rattle.commit_graph.specs.Seats.{IsSameSeat, Seated}
-use Rattle.group_steps.specs.Tries.{TellsProgress}
+use Rattle.commit_graph.specs.Seats.{IsSameSeat, SeatState}
+use Rattle.change_tries.specs.Tries.{TellsProgress}
 use Rattle.rebase.specs.Clients.{ClientState, grouped}
 use Rattle.rebase.proofs.Keeping.{keeps_found}
-use Rattle.group_steps.specs.Proposing.{AsksNext}
-use Rattle.group_steps.proofs.Since.{since_self}
+use Rattle.change_tries.specs.Proposing.{AsksNext}
+use Rattle.change_tries.proofs.Since.{since_self}
 use Rattle.rebase.proofs.Running.{first_shown, progress_none}
 use Rattle.rebase.proofs.client.Client.ask.Goals as goal
 
@@ -31,8 +31,8 @@ returns-clause-told g c =
     c.go_on.ensures.told self
     (ap (λ (w : ClientState). w.group) c.client.view_is, ap (λ (w : ClientState). w.id) c.client.view_is)
     (ap (λ (w : ClientState). w.last) c.client.view_is)
-    (subst (λ (w : Seated). IsSameSeat w new) seat e.seat)
-    (subst (λ (w : Seated). TellsProgress means reused c.args.tries w new self.last c.args.change p) seat
+    (subst (λ (w : SeatState). IsSameSeat w new) seat e.seat)
+    (subst (λ (w : SeatState). TellsProgress means reused c.args.tries w new self.last c.args.change p) seat
     (subst (λ (n : ℕ). TellsProgress means reused c.args.tries k.seat new n c.args.change p) id
     (e.told k.seat (since_self reused c.args.change k.seat))))
 

@@ -1,5 +1,5 @@
 use Rattle.std.proofs.Common.{Ok, ap, ◌∙◌}
-use Rattle.rebase.specs.Running.{IsFirst, IsUnwritten}
+use Rattle.rebase.specs.Running.{IsFirstAsked, IsUnwritten}
 use Rattle.rebase.proofs.Running.{closed_told_as, pulled_told_as, tells_none, unread_told, unsupported_told}
 use Rattle.rebase.proofs.client.Client.ask_end_pull.Goals as goal
 
@@ -28,12 +28,13 @@ returns-in-Err-clause-told g c =
     c.refuse_asked.ensures.told
 
 pub returns-in-Ok-VersionNotSupported-clause-first : goal.returns-in-Ok-VersionNotSupported-clause-first
-returns-in-Ok-VersionNotSupported-clause-first g c = tells_none c.ask_unsupported.result (IsFirst g.M.Has.has) _
+returns-in-Ok-VersionNotSupported-clause-first g c = tells_none c.ask_unsupported.result (IsFirstAsked g.M.Has.has) _
     (c.ask_unsupported.ensures.told c.args.ticket.now.cookie c.args.body.now
     (c.in-Ok-VersionNotSupported.ensures.read ∙ ap Ok c.in-Ok-VersionNotSupported.field-0-is))
 
 pub returns-in-Err-clause-first : goal.returns-in-Err-clause-first
-returns-in-Err-clause-first g c = tells_none c.refuse_asked.result (IsFirst g.M.Has.has) _ c.refuse_asked.ensures.told
+returns-in-Err-clause-first g c =
+    tells_none c.refuse_asked.result (IsFirstAsked g.M.Has.has) _ c.refuse_asked.ensures.told
 
 pub returns-in-Ok-VersionNotSupported-clause-fresh : goal.returns-in-Ok-VersionNotSupported-clause-fresh
 returns-in-Ok-VersionNotSupported-clause-fresh g c = tells_none c.ask_unsupported.result (IsUnwritten g.M.Has.has) _

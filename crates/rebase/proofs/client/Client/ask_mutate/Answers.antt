@@ -2,7 +2,7 @@ use Rattle.std.proofs.Common.{◌≡◌, ◌+◌, refl, rules}
 use Rattle.group_history.specs.declared.changes.Change.TheVariants.{Mutated}
 use Rattle.group_history.specs.declared.refusals.Refusal.TheVariants as refusal
 use Rattle.group_history.specs.State.{made}
-use Rattle.rebase.specs.Running.{IsFirst, IsUnwritten}
+use Rattle.rebase.specs.Running.{IsFirstAsked, IsUnwritten}
 use Rattle.rebase.proofs.Running.{refused_told, tells_none}
 use Rattle.rebase.proofs.client.Client.ask_mutate.Goals as goal
 
@@ -14,7 +14,8 @@ returns-in-Err-clause-told g c =
     c.refuse_asked.result refl refl dry c.refuse_asked.ensures.told
 
 pub returns-in-Err-clause-first : goal.returns-in-Err-clause-first
-returns-in-Err-clause-first g c = tells_none c.refuse_asked.result (IsFirst g.M.Has.has) _ c.refuse_asked.ensures.told
+returns-in-Err-clause-first g c =
+    tells_none c.refuse_asked.result (IsFirstAsked g.M.Has.has) _ c.refuse_asked.ensures.told
 
 pub returns-in-Err-clause-fresh : goal.returns-in-Err-clause-fresh
 returns-in-Err-clause-fresh g c = tells_none c.refuse_asked.result (IsUnwritten g.M.Has.has) _

@@ -1,7 +1,7 @@
 use Rattle.std.proofs.Common.{refl}
-use Rattle.group_steps.specs.Missing.{map_ok}
+use Rattle.change_tries.specs.Missing.{map_ok}
 use Rattle.rebase.specs.Replies.{ended, reply_seen}
-use Rattle.rebase.specs.declared.calls.Reply.TheVariants as reply
+use Rattle.rebase.specs.declared.calls.CallReply.TheVariants as reply
 use Rattle.rebase.proofs.CallLemmas.{mapped}
 use Rattle.rebase.proofs.Running.{unsupported_ends}
 use Rattle.rebase.proofs.client.Client.ask_unsupported.Goals as goal

@@ -2,7 +2,7 @@ use Rattle.std.proofs.Common.{map, subst}
 use Rattle.head_word.specs.Marks.{Known}
 use Rattle.group_history.specs.Record.{after}
 use Rattle.head_word.specs.Books.{record_of}
-use Rattle.group_steps.specs.Missing.{map_ok}
+use Rattle.change_tries.specs.Missing.{map_ok}
 use Rattle.rebase.specs.Calls.{AreAnswered, AreReplies, Caller, IsAlone, caller_of}
 use Rattle.rebase.specs.Replies.{reply_seen}
 use Rattle.rebase.proofs.CallLemmas.{alone_replies, caller_stays}

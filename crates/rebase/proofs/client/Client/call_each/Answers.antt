@@ -1,8 +1,8 @@
 use Rattle.std.proofs.Common.{◌+◌, ℕ, arith, is_ok, sym, subst, ap, ◌∙◌, length, map, take, ◌∷◌, [], length-append}
 use Rattle.map_chunks.proofs.ListLemmas.{succeeded}
 use Rattle.commit_graph.proofs.Seating.{seat-trans}
-use Rattle.group_steps.specs.Missing.{map_ok}
-use Rattle.group_steps.specs.Leaving.{Frees}
+use Rattle.change_tries.specs.Missing.{map_ok}
+use Rattle.change_tries.specs.Leaving.{Frees}
 use Rattle.rebase.specs.Calls.{AreAnswered, Caller, IsMade, caller_of, change_for, change_of}
 use Rattle.rebase.specs.Replies.{reply_seen}
 use Rattle.rebase.proofs.CallLemmas.{caller_moves, turn, why_told}

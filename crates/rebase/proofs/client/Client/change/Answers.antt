@@ -1,9 +1,9 @@
 use Rattle.std.proofs.Common.{Some, subst, sym}
-use Rattle.answered.specs.Answered.{IsLinearized}
-use Rattle.group_steps.specs.Changing.{is_made}
-use Rattle.group_steps.specs.Leaving.{Frees, spared}
-use Rattle.group_steps.specs.Missing.{map_ok}
-use Rattle.group_steps.specs.Proposing.{AsksNext, asked_reply, change_asked}
+use Rattle.linearized.specs.Answered.{IsLinearized}
+use Rattle.change_tries.specs.Changing.{is_made}
+use Rattle.change_tries.specs.Leaving.{Frees, spared}
+use Rattle.change_tries.specs.Missing.{map_ok}
+use Rattle.change_tries.specs.Proposing.{AsksNext, asked_reply, change_asked}
 use Rattle.rebase.specs.Clients.{ClientState}
 use Rattle.rebase.proofs.Keeping.{keeps_found}
 use Rattle.rebase.proofs.client.Client.change.Goals as goal

@@ -5,12 +5,12 @@ use Rattle.group_history.specs.declared.responses.Ended.{Ended}
 use Rattle.group_history.specs.declared.responses.Response.TheVariants as response
 use Rattle.group_history.specs.Cookies.{Cookie}
 use Rattle.group_history.specs.Pulling.{end_reply}
-use Rattle.answered.specs.Answered.{IsLinearized}
-use Rattle.answered.specs.Changes.{change_applied}
-use Rattle.group_steps.specs.Changing.{ended_as, is_made}
-use Rattle.group_steps.specs.Leaving.{Frees, spared}
-use Rattle.group_steps.specs.Proposing.{asked_reply, change_asked}
-use Rattle.group_steps.specs.Missing.{map_ok}
+use Rattle.linearized.specs.Answered.{IsLinearized}
+use Rattle.linearized.specs.Changes.{change_applied}
+use Rattle.change_tries.specs.Changing.{ended_as, is_made}
+use Rattle.change_tries.specs.Leaving.{Frees, spared}
+use Rattle.change_tries.specs.Proposing.{asked_reply, change_asked}
+use Rattle.change_tries.specs.Missing.{map_ok}
 use Rattle.rebase.proofs.Causing.{frees_none, frees_told}
 use Rattle.rebase.proofs.Telling.{applied_same, pull_told}
 use Rattle.rebase.proofs.client.Client.end_applied.Goals as goal

@@ -2,10 +2,10 @@ use Rattle.std.proofs.Common.{◌≡◌, ℕ, true, false, None, Option, refl, r
 use Rattle.std.specs.Prelude.{IfErr}
 use Rattle.group_history.specs.declared.changes.Change.{Change}
 use Rattle.pull_patch.specs.Grammar.{answer_to}
-use Rattle.answered.specs.Changes.{change_read}
+use Rattle.linearized.specs.Changes.{change_read}
 use Rattle.commit_graph.proofs.Seating.{seat-self, seat-trans}
-use Rattle.group_steps.specs.Causes.{HasCause}
-use Rattle.group_steps.specs.Leaving.{Frees, spared}
+use Rattle.change_tries.specs.Causes.{HasCause}
+use Rattle.change_tries.specs.Leaving.{Frees, spared}
 use Rattle.rebase.specs.Asking.{change_wanted, end_bytes_reply, is_passing}
 use Rattle.rebase.proofs.Causing.{cause_anew, frees_anew, frees_loads, frees_self, if_err_then, looked_looked}
 use Rattle.rebase.proofs.Causing.{looked_self}

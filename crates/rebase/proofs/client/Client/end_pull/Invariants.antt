@@ -1,9 +1,9 @@
 use Rattle.std.proofs.Common.{◌≡◌, None}
-use Rattle.answered.specs.Answered.{own_moves}
+use Rattle.linearized.specs.Answered.{own_moves}
 use Rattle.commit_graph.specs.Seats.{HasLooked, IsSameSeat}
 use Rattle.pull_patch.specs.Grammar.{answer_to}
 use Rattle.rebase.specs.Asking.{change_wanted}
-use Rattle.group_steps.specs.Leaving.{FreesAnew}
+use Rattle.change_tries.specs.Leaving.{FreesAnew}
 use Rattle.rebase.specs.Clients.{IsSameClient}
 use Rattle.rebase.proofs.client.Client.end_pull.Given as goal
 

@@ -2,8 +2,8 @@ use Rattle.std.proofs.Common.{Option, Result, Some, subst}
 use Rattle.group_history.specs.declared.changes.Change.TheVariants.{Closed}
 use Rattle.group_history.specs.declared.refs.Ref.{Ref}
 use Rattle.group_history.specs.declared.refusals.Refusal.{Refusal}
-use Rattle.answered.specs.Changes.{change_closing}
-use Rattle.group_steps.specs.Leaving.{Frees, spared}
+use Rattle.linearized.specs.Changes.{change_closing}
+use Rattle.change_tries.specs.Leaving.{Frees, spared}
 use Rattle.rebase.specs.Inside.Made.{closing_ended}
 use Rattle.rebase.proofs.Telling.{frees_closing}
 use Rattle.rebase.proofs.client.Client.end_unknown.Goals as goal

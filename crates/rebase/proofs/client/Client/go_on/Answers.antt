@@ -3,7 +3,7 @@ use Rattle.rebase.specs.Clients.{ClientState}
 use Rattle.rebase.specs.Inside.Shown.{under_way}
 use Rattle.rebase.specs.Replies.{reply_seen}
 use Rattle.rebase.specs.Running.{IsAsked, IsUnwritten}
-use Rattle.group_steps.specs.Missing.{map_ok}
+use Rattle.change_tries.specs.Missing.{map_ok}
 use Rattle.rebase.proofs.Running.{go_end, go_fresh, go_run, shown_run}
 use Rattle.rebase.proofs.client.Client.go_on.Goals as goal
 

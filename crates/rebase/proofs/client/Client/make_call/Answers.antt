@@ -3,17 +3,17 @@ use Rattle.group_history.specs.declared.changes.Change.TheVariants.{Mutated}
 use Rattle.group_history.specs.State.{State, last_id}
 use Rattle.push_body.specs.Bodies.{push_text}
 use Rattle.pull_patch.specs.Grammar.{answer_to}
-use Rattle.answered.specs.Answered.{no_change}
-use Rattle.answered.specs.Changes.{change_made, change_read}
+use Rattle.linearized.specs.Answered.{no_change}
+use Rattle.linearized.specs.Changes.{change_made, change_read}
 use Rattle.rebase.specs.Asking.{change_wanted}
 use Rattle.rebase.specs.Calls.{asked_mutation, caller_of, change_for, change_of, ended_in, id_in}
 use Rattle.rebase.specs.declared.calls.Call.{Call}
-use Rattle.group_steps.specs.Leaving.{Frees, spared}
-use Rattle.group_steps.specs.Missing.{map_ok}
+use Rattle.change_tries.specs.Leaving.{Frees, spared}
+use Rattle.change_tries.specs.Missing.{map_ok}
 use Rattle.rebase.specs.Queries.{asked, asked_at}
 use Rattle.rebase.specs.Replies.{body, ended, id, reply_seen, ticket}
 use Rattle.rebase.specs.declared.calls.Call.TheVariants as call
-use Rattle.rebase.specs.declared.calls.Reply.TheVariants as reply
+use Rattle.rebase.specs.declared.calls.CallReply.TheVariants as reply
 use Rattle.rebase.proofs.CallLemmas.{call_told, ended_shown, ended_told, id_shown, mapped, mutated_told, query_told}
 use Rattle.rebase.proofs.Causing.{frees_told, spared_told}
 use Rattle.rebase.proofs.client.Client.make_call.Goals as goal

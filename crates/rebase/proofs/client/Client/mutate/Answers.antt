@@ -6,12 +6,12 @@ use Rattle.group_history.specs.declared.mutations.Mutation.{Mutation}
 use Rattle.group_history.specs.Map.{Bytes}
 use Rattle.group_history.specs.Mutating.{mutate_reply}
 use Rattle.group_history.specs.State.{made}
-use Rattle.answered.specs.Answered.{IsLinearized}
-use Rattle.answered.specs.Changes.{change_made}
+use Rattle.linearized.specs.Answered.{IsLinearized}
+use Rattle.linearized.specs.Changes.{change_made}
 use Rattle.rebase.specs.Asking.{is_passing}
 use Rattle.commit_graph.proofs.Seating.{seat-self, seat-trans}
-use Rattle.group_steps.specs.Causes.{HasCause}
-use Rattle.group_steps.specs.Leaving.{Frees, spared}
+use Rattle.change_tries.specs.Causes.{HasCause}
+use Rattle.change_tries.specs.Leaving.{Frees, spared}
 use Rattle.rebase.proofs.Causing.{cause_anew, frees_anew, frees_loads, frees_self, if_err_then}
 use Rattle.rebase.proofs.Lasting.{begun_anew, left_alone, passing_changes, passing_err}
 use Rattle.rebase.proofs.client.Client.mutate.Goals as goal

@@ -1,9 +1,9 @@
 use Rattle.std.proofs.Common.{◌≡◌, ◌+◌, None, Some}
 use Rattle.group_history.specs.declared.changes.Change.TheVariants.{Mutated}
 use Rattle.group_history.specs.State.{made}
-use Rattle.answered.specs.Answered.{own_moves}
+use Rattle.linearized.specs.Answered.{own_moves}
 use Rattle.commit_graph.specs.Seats.{IsSameSeat}
-use Rattle.group_steps.specs.Leaving.{FreesAnew}
+use Rattle.change_tries.specs.Leaving.{FreesAnew}
 use Rattle.rebase.specs.Clients.{IsSameClient}
 use Rattle.rebase.proofs.client.Client.mutate.Given as goal
 

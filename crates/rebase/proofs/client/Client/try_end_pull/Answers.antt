@@ -8,11 +8,11 @@ use Rattle.group_history.specs.declared.responses.Response.TheVariants as respon
 use Rattle.group_history.specs.Answers.{◌>>=◌}
 use Rattle.group_history.specs.Pulling.{end_reply}
 use Rattle.pull_patch.specs.Grammar.{answer_to}
-use Rattle.answered.specs.Answered.{IsLinearized}
-use Rattle.answered.specs.Changes.{change_read}
+use Rattle.linearized.specs.Answered.{IsLinearized}
+use Rattle.linearized.specs.Changes.{change_read}
 use Rattle.head_word.specs.Marks.{Known}
-use Rattle.group_steps.specs.Causes.{HasCause}
-use Rattle.group_steps.specs.Leaving.{Frees, spared}
+use Rattle.change_tries.specs.Causes.{HasCause}
+use Rattle.change_tries.specs.Leaving.{Frees, spared}
 use Rattle.rebase.specs.Asking.{change_wanted, end_bytes_reply}
 use Rattle.rebase.proofs.Causing.{frees_none}
 use Rattle.rebase.proofs.Unread.{unread, unread_cause, unread_changes}

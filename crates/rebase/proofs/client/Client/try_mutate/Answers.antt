@@ -6,11 +6,11 @@ use Rattle.group_history.specs.declared.refusals.Refusal.{Refusal}
 use Rattle.group_history.specs.Mutating.{mutate_reply}
 use Rattle.group_history.specs.State.{made}
 use Rattle.head_word.specs.Marks.{Known}
-use Rattle.answered.specs.Answered.{IsLinearized}
-use Rattle.answered.specs.Changes.{change_made}
-use Rattle.group_steps.specs.Leaving.{Frees, spared}
-use Rattle.group_steps.specs.Missing.{map_ok}
-use Rattle.commit_graph.specs.Seats.{Seated}
+use Rattle.linearized.specs.Answered.{IsLinearized}
+use Rattle.linearized.specs.Changes.{change_made}
+use Rattle.change_tries.specs.Leaving.{Frees, spared}
+use Rattle.change_tries.specs.Missing.{map_ok}
+use Rattle.commit_graph.specs.Seats.{SeatState}
 use Rattle.rebase.specs.Clients.{ClientState}
 use Rattle.rebase.proofs.Causing.{frees_none, frees_told}
 use Rattle.rebase.proofs.Telling.{made_same, next_told}
@@ -29,7 +29,7 @@ returns-clause-answer g c =
     c.change-made.ensures.answer) in
     let there = subst (λ (m : Known). IsLinearized means c.args.tries old.seat.mark m
     (map_ok (λ (at : Option Ref). old.last + 1) given) (change_made x) (λ s. mutate_reply means s old.last x))
-    (ap (λ (t : Seated). t.mark) (sym c.keep_next.ensures.seat)) so in
+    (ap (λ (t : SeatState). t.mark) (sym c.keep_next.ensures.seat)) so in
     let reply : c.keep_next.result ≡ map_ok (λ (at : Option Ref). old.last + 1) given = c.keep_next.ensures.id ∙ ap
     (λ (n : ℕ). map_ok (λ (at : Option Ref). n + 1) given) c.change-made.ensures.acts.1 in
     subst (λ (w : Result ℕ Refusal). IsLinearized means c.args.tries old.seat.mark new.seat.mark w (change_made x)
@@ -49,7 +49,7 @@ returns-clause-frees g c r =
     c.change-made.ensures.answer) (c.change-made.ensures.frees r)) in
     let reply : c.keep_next.result ≡ map_ok (λ (at : Option Ref). old.last + 1) given = c.keep_next.ensures.id ∙ ap
     (λ (n : ℕ). map_ok (λ (at : Option Ref). n + 1) given) c.change-made.ensures.acts.1 in
-    subst (λ (s : Seated). Frees (Some (Mutated x)) (spared c.keep_next.result) old.seat s
+    subst (λ (s : SeatState). Frees (Some (Mutated x)) (spared c.keep_next.result) old.seat s
     (change_made x c.keep_next.result)) (sym c.keep_next.ensures.seat)
     (frees_told (λ (at : Option Ref). old.last + 1) (Some (Mutated x)) old.seat mid.seat given c.keep_next.result
     (change_made x (map_ok (λ (at : Option Ref). old.last + 1) given)) (change_made x c.keep_next.result) reply

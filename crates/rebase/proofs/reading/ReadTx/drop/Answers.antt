@@ -3,7 +3,7 @@ use Rattle.head_word.specs.Marks.{own}
 use Rattle.reader_claims.specs.declared.view.View.{View}
 use Rattle.reader_claims.specs.declared.words.Pin.TheVariants.{Absent}
 use Rattle.reader_claims.specs.Views.{with_pin}
-use Rattle.commit_graph.specs.Seats.{IsCalm, IsLater, Seated}
+use Rattle.commit_graph.specs.Seats.{IsCalm, IsLater, SeatState}
 use Rattle.commit_graph.proofs.Seating.{later-self}
 use Rattle.rebase.specs.Clients.{ClientState}
 use Rattle.rebase.specs.Readers.{lent}
@@ -25,9 +25,9 @@ returns-clause-stays g c =
     let old = (lent c.args.self).now in
     let v = c.client.view_is in let w = c.seat.view_is in let e = c.unpin.ensures in
     let kept = c.client.invariant.0 in let shares = c.deref-group.ensures in
-    let mark : c.seat.inside.mark ≡ old.seat.mark = ap (λ (s : Seated). s.mark) w ∙ ap
+    let mark : c.seat.inside.mark ≡ old.seat.mark = ap (λ (s : SeatState). s.mark) w ∙ ap
     (λ (s : ClientState). s.seat.mark) v in
-    let here : g.S.Slots.view c.seat.inside.slots ≡ c.client.inside.seat.view = ap (λ (s : Seated). s.view) w in (
+    let here : g.S.Slots.view c.seat.inside.slots ≡ c.client.inside.seat.view = ap (λ (s : SeatState). s.view) w in (
       record {
         client = (ap (λ (s : ClientState). s.group) v, ap (λ (s : ClientState). s.id) v);
         looked = record {

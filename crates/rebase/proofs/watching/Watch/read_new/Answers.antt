@@ -1,4 +1,4 @@
-use Rattle.std.proofs.Common.{◌≡◌, None, Some, ap, subst, sym, ◌∙◌}
+use Rattle.std.proofs.Common.{Some, ap, subst, sym, ◌∙◌}
 use Rattle.group_history.specs.Queries.{view_rows}
 use Rattle.group_history.specs.Rows.{Rows}
 use Rattle.head_word.specs.Books.{drawn}
@@ -8,7 +8,7 @@ use Rattle.transactions.proofs.SpanLemmas.{spans_known}
 use Rattle.rebase.specs.Inside.Watching.{AreRead, rows_told}
 use Rattle.rebase.specs.Readers.{read_by, seen_by}
 use Rattle.rebase.specs.Watching.{Watched}
-use Rattle.rebase.proofs.Polling.{all_told, if_none, if_some}
+use Rattle.rebase.proofs.Polling.{if_none, if_some}
 use Rattle.rebase.proofs.watching.Watch.read_new.Goals as goal
 
 pub returns-clause-some : goal.returns-clause-some
@@ -21,8 +21,7 @@ returns-clause-some g c =
     (spans_known own.scan (drawn own.mark.log) (drawn all) told.rows told.spans
     (drawn_begins own.mark.log all c.mark_with-mark.ensures.other) read.4) in
     let found = c.in_ok-others.ensures.found (drawn all) (drawn_begins log all c.mark_with-mark.ensures.own) known in
-    let limit : own.scan.limit ≡ None = ap (λ (w : Watched). w.scan.limit) c.self.view_is ∙ c.requires.limit in
-    if_some c.in_ok-others.field-0.others (λ rows is. is ∙ all_told means s own.scan limit
+    if_some c.in_ok-others.field-0.others (λ rows is. is
     ∙ ap (λ (w : Watched). view_rows means s w.scan) c.self.view_is) found.some
 
 pub returns-clause-same : goal.returns-clause-same
@@ -35,10 +34,9 @@ returns-clause-same g c =
     (spans_known own.scan (drawn own.mark.log) (drawn all) told.rows told.spans
     (drawn_begins own.mark.log all c.mark_with-mark.ensures.other) read.4) in
     let found = c.in_ok-others.ensures.found (drawn all) (drawn_begins log all c.mark_with-mark.ensures.own) known in
-    let limit : own.scan.limit ≡ None = ap (λ (w : Watched). w.scan.limit) c.self.view_is ∙ c.requires.limit in
     if_none c.in_ok-others.field-0.others (λ is. sym (ap (λ (w : Watched). w.last) c.self.view_is)
-    ∙ ap rows_told c.in-Some.is ∙ ap (λ (rows : Rows). Some rows) (sym c.as_slice.ensures ∙ is
-    ∙ all_told means s own.scan limit) ∙ ap (λ (w : Watched). Some (view_rows means s w.scan)) c.self.view_is)
+    ∙ ap rows_told c.in-Some.is ∙ ap (λ (rows : Rows). Some rows) (sym c.as_slice.ensures ∙ is)
+    ∙ ap (λ (w : Watched). Some (view_rows means s w.scan)) c.self.view_is)
     found.same
 
 pub returns-clause-spans : goal.returns-clause-spans
@@ -51,6 +49,5 @@ returns-clause-spans g c =
     (spans_known own.scan (drawn own.mark.log) (drawn all) told.rows told.spans
     (drawn_begins own.mark.log all c.mark_with-mark.ensures.other) read.4) in
     let found = c.in_ok-others.ensures.found (drawn all) (drawn_begins log all c.mark_with-mark.ensures.own) known in
-    let limit : own.scan.limit ≡ None = ap (λ (w : Watched). w.scan.limit) c.self.view_is ∙ c.requires.limit in
     subst (λ (w : Watched). AreSpans w.scan (drawn all) (view_rows means s w.scan) spans) c.self.view_is
-    (subst (λ (rows : Rows). AreSpans own.scan (drawn all) rows spans) (all_told means s own.scan limit) found.spans)
+    found.spans

@@ -1,5 +1,6 @@
 use Rattle.std.proofs.Common.{◌-◌, ℕ, inl, inr, length, ap, subst, sym, ◌∙◌}
 use Rattle.std.specs.List.{Contains}
+use Rattle.map_chunks.specs.Inside.Scanning.{CanTake}
 use Rattle.transactions.specs.Rescans.{Found}
 use Rattle.transactions.specs.declared.spans.Span.{Span}
 use Rattle.transactions.proofs.SpanLemmas.{set_cases}
@@ -14,5 +15,6 @@ returns-then-begun-len-clause-spans g c s h = elim (set_cases c.self.inside.span
     ap (λ (w : Span). w.count) (sym e) ∙ c.saturating_sub-count.ensures
         ∙ ap (λ (n : ℕ). n - c.args.begun.from) c.count.ensures
         ∙ ap (λ (f : Found). length f.rows - c.args.begun.from) c.self.view_is,
+    subst (λ (f : Found). CanTake f.room 1) c.self.view_is (c.fits.ensures c.if-not-fits.false),
   )
 ]

@@ -1,10 +1,10 @@
 use Rattle.std.proofs.Common.{IfOk, ap, subst, sym, ◌∙◌}
-use Rattle.std.specs.FinMap as finite
 use Rattle.group_history.specs.Refs.{stamp_of}
 use Rattle.group_history.specs.Rows.{Rows}
+use Rattle.group_history.specs.Scans.{rows_of}
 use Rattle.group_history.specs.Spelling.{Contents}
 use mathlib.Core.List.{IsPrefix}
-use Rattle.map_chunks.specs.Scanning.{scanned}
+use Rattle.map_chunks.specs.Scanning.{taken}
 use Rattle.transactions.specs.Reads.{Read}
 use Rattle.transactions.specs.Rescans.{IsRescanned}
 use Rattle.transactions.specs.Spans.{AreSpans}
@@ -33,7 +33,7 @@ returns-clause-found g c =
     let told = c.args.before.now in let root = read_rows known (stamp_of t.head) (stamp_of t.root) c.self.invariant.0 in
     subst (λ (r : Read). IfOk c.scan_again.result (λ found. (all : Contents) → IsPrefix r.contents all
     → AreSpans scan all told c.args.known.now
-    → IsRescanned scan all told (scanned scan (finite.entries r.version.read)) found)) c.self.view_is
+    → IsRescanned scan all told (rows_of scan r.version.read) found)) c.self.view_is
     (subst (λ (rows : Rows). IfOk c.scan_again.result (λ found. (all : Contents) → IsPrefix known all
-    → AreSpans scan all told c.args.known.now → IsRescanned scan all told (scanned scan rows) found))
+    → AreSpans scan all told c.args.known.now → IsRescanned scan all told (taken scan scan.limit rows) found))
     (sym root.rows) c.scan_again.ensures.found)

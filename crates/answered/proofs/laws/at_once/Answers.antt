@@ -1,5 +1,0 @@
-use Rattle.answered.proofs.AtOnce.{at_once}
-use Rattle.answered.proofs.laws.at_once.Goals as goal
-
-pub returns : goal.returns
-returns c means = at_once means

@@ -1,5 +1,0 @@
-use Rattle.answered.proofs.Holding.{change_laws_hold}
-use Rattle.answered.proofs.laws.change_laws.Goals as goal
-
-pub returns : goal.returns
-returns c = change_laws_hold

@@ -1,0 +1,43 @@
+-- States after a mutation, and after a pull.
+use Rattle.std.proofs.Common.{◌≡◌, ℕ, ◌+◌, ◌<◌, false, List, [], ◌∷◌, ◌++◌, take, get_or, length, sym, ap, ◌∙◌}
+use Rattle.std.proofs.Common.{append_assoc}
+use Rattle.std.proofs.lemmas.List.{take_more}
+use Rattle.group_history.specs.declared.responses.Confirmed.{Confirmed}
+use Rattle.group_history.specs.declared.responses.Patch.{Patch}
+use Rattle.group_history.specs.declared.mutations.Mutation.{Mutation}
+use Rattle.group_history.specs.Cookies.{Cookie}
+use Rattle.group_history.specs.Map.{patched}
+use Rattle.group_history.specs.Pull.{Pull}
+use Rattle.group_history.specs.Pulling.{overwritten, left_pending, after_pull}
+use Rattle.group_history.specs.Meaning.{Meanings}
+use Rattle.group_history.specs.Mutating.{after_mutate}
+use Rattle.group_history.specs.State.{State, state, Ids, pulled_state, view_of, replayed_once}
+use Rattle.group_history.proofs.Replays.{replayed-append}
+use Rattle.change_drafts.specs.Pending.{with_more}
+
+-- a view with one mutation more
+pub view-mutated : (means : Meanings) (s : State) (x : Mutation)
+    → view_of means (after_mutate s x) ≡ replayed_once means (view_of means s) x
+view-mutated means s x = replayed-append means s.pulled s.pending (x ∷ [])
+
+-- one of the pending mutations more
+pub with_next : (s : State) (xs : List Mutation) (k : ℕ) (x : Mutation) → k < length xs → x ≡ get_or xs k x
+    → after_mutate (with_more s (take k xs)) x ≡ with_more s (take (k + 1) xs)
+with_next s xs k x low is =
+    let all : (s.pending ++ take k xs) ++ x ∷ [] ≡ s.pending ++ take (k + 1) xs =
+    append_assoc s.pending (take k xs) (x ∷ []) ∙ ap (λ w. s.pending ++ w)
+    (ap (λ (y : Mutation). take k xs ++ y ∷ []) is ∙ sym (take_more xs k x low)) in
+    ap (λ (w : List Mutation). state s.pulled s.cookie s.confirmed w s.closed) all
+
+-- the state after a pull of an open group, by its parts
+pub pull_parts : (s : State) (r : Pull) (cookie : Cookie) (ids old : Ids) (ops : List Patch) (changes : List Confirmed)
+    (ps before : List Mutation)
+    → ops ≡ r.patch → cookie ≡ r.cookie → ids ≡ overwritten old changes → changes ≡ r.changes → s.confirmed ≡ old
+    → ps ≡ left_pending ids before → before ≡ s.pending → s.closed ≡ false
+    → with_more (pulled_state (patched s.pulled ops) cookie ids) ps ≡ after_pull s r
+pull_parts s r cookie ids old ops changes ps before p c i h o n b is_open =
+    let is : ids ≡ overwritten s.confirmed r.changes = i ∙
+    (ap (overwritten old) h ∙ ap (λ (w : Ids). overwritten w r.changes) (sym o)) in
+    let left : ps ≡ left_pending (overwritten s.confirmed r.changes) s.pending = n ∙
+    (ap (λ (w : Ids). left_pending w before) is ∙ ap (left_pending (overwritten s.confirmed r.changes)) b) in
+    λ j. state (patched s.pulled (p j)) (c j) (is j) (left j) (sym is_open j)

@@ -1,0 +1,15 @@
+use Rattle.std.proofs.Common.{◌≡◌, take, Some}
+use Rattle.group_history.specs.Map.{Entries}
+use Rattle.group_history.specs.Refs.{stamp_of}
+use Rattle.group_history.specs.Spelling.{map_at}
+use Rattle.group_history.specs.State.{replayed}
+use Rattle.map_chunks.specs.Places.{with_nodes}
+use Rattle.map_tree.specs.Trees.{tree_map}
+use Rattle.change_drafts.proofs.locals.run_all.Given as goal
+
+-- the tree has the map that so many of the mutations leave
+abbrev pub invariant-loop-mutation : goal.invariant-loop-mutation
+invariant-loop-mutation g l =
+    let contents = with_nodes g.K.NamesContents.known l.draft.nodes in
+    (m : Entries) → map_at contents (stamp_of l.fn.root) ≡ Some m
+    → tree_map contents l.tree ≡ Some (replayed g.M.Means.means m (take l.mutation-index l.pending))

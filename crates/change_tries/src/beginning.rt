@@ -1,0 +1,327 @@
+//! What a change asks for first, at the commit where a call stands.
+ghost use Rattle.std.specs.Prelude.{ℕ, ◌≡◌, [], ◌∷◌, false, Ok, Some, IfOk, IfErr, IfSome, length};
+ghost use Rattle.group_history.specs.Cookies.{Cookie as Cookied};
+ghost use Rattle.group_history.specs.declared.changes.Change.TheVariants as changed;
+ghost use Rattle.group_history.specs.declared.refusals.Refusal.TheVariants as refusal;
+ghost use Rattle.group_history.specs.declared.responses.Ended.TheVariants as ended;
+ghost use Rattle.group_history.specs.Map.{patched};
+ghost use Rattle.group_history.specs.Meaning.{meaning_of};
+ghost use Rattle.group_history.specs.Pull.{Pull};
+ghost use Rattle.group_history.specs.Pulling.{after_pull, end_at};
+ghost use Rattle.group_history.specs.Record.{IsAccepted};
+ghost use Rattle.group_history.specs.State.{State, pulled_state, replayed, view_of};
+ghost use Rattle.head_word.specs.Books.{drawn};
+ghost use Rattle.map_chunks.specs.Drafts.{AreNeeded, IsLate};
+ghost use Rattle.map_tree.specs.Trees.{tree_map};
+ghost use Rattle.commit_graph.specs.Chains.{IsBaseOf};
+ghost use Rattle.linearized.specs.Trying.{IsUnproposed};
+ghost use Rattle.change_drafts.specs.Chaining.{HasTip, IsTip};
+ghost use Rattle.change_drafts.specs.Running.{MayRun};
+ghost use Rattle.change_tries.specs.Missing.{IsStoreOrMemory, IsStoreRefusal, IsStop};
+ghost use Rattle.change_tries.specs.Places.{state_at};
+ghost use Rattle.change_tries.specs.Proposing.{IsDraftSpot, MayAsk, StaysFound, asked_reply, change_asked};
+ghost use Rattle.change_tries.specs.Runs.{HasNew, IsFirstStep, IsNewMutation, IsOnLeft, MayStep, drafted, with_more};
+
+use crate::ending::{end_new, finish, go_on};
+use crate::places::At;
+use crate::proposing::{DraftSpot, check_next};
+use crate::runs::{AskedRun, BoxedRun, Chain, NextStep, Replaying};
+use crate::views::last_known;
+use change_drafts::{
+    OwnRun, RunMap, Runs, Setting, add_patched, after_changes, pending_at, pull_outcome, run_on,
+    run_pending,
+};
+use chunk_slots::Slots;
+use commit_graph::{Base, LastId, StoreNodes};
+use group_history::{Change, ConfirmedIds, Cookie, Ended, Means, Mutation, PullOk, Ref, Refusal};
+use map_chunks::Draft;
+use map_tree::Tree;
+use std::marker::Brand;
+
+// The commit at which a client's last id is found, which a mutation has to follow: the one where the call stands,
+// unless it is another id there.
+pub(crate) fn catch_up<M: Means, S: Slots<M>>(
+    at: &At<'_, M, S>,
+    change: &Change,
+    found: LastId,
+) -> Result<Ref, Refusal>
+    requires asks { MayAsk (drawn at.now.mark.log) found change.now }
+    ensures kept { IfOk result (λ there. StaysFound (drawn at.now.mark.log) found
+        (record { at = there; id = found.id }) change.now) }
+    ensures err { IfErr result (IsStoreRefusal S.reused) }
+{
+    let Change::Mutated(mutation) = change else {
+        return Ok(found.at);
+    };
+    let id = last_known(at, &mutation.client, Some(found))?;
+    if id != found.id {
+        return Ok(found.at);
+    }
+    Ok(at.commit)
+}
+
+// The group's run of a new mutation at the tip, if it has the mutator.
+fn run_new<'a, M: Runs, S: Slots<M>>(
+    at: &At<'a, M, S>,
+    chain: &Chain,
+    mutation: &Mutation,
+) -> Result<OwnRun, Refusal>
+    requires behind { chain.now.draft.first ≡ length (drawn at.now.mark.log) }
+    requires tip { IsTip M.means (drafted (drawn at.now.mark.log) chain.now) chain.now.tip (state_at at.now) }
+    ensures ran { IfOk result (MayRun (drafted (drawn at.now.mark.log) chain.now) (M.has mutation.now.name)
+        (meaning_of M.means mutation.now (view_of M.means (state_at at.now))) (view_of M.means (state_at at.now))) }
+    ensures err { IfErr result (IsStoreOrMemory S.reused) }
+{
+    let group = at.group;
+    let setting = Setting {
+        alloc: group.shared.alloc,
+        chunks: at.nodes(),
+        mutators: &group.mutators,
+    };
+    let tree = Tree::at(chain.tip.root);
+    run_on::<StoreNodes<'a, M, S>, Brand, M>(&setting, &chain.draft, tree, mutation)
+}
+
+// A mutation that is its client's next one: it is run by the group, or its run is asked for.
+fn begin_next<M: Runs, S: Slots<M>>(
+    at: &At<'_, M, S>,
+    chain: Chain,
+    mutation: Mutation,
+    last: u64,
+) -> Result<NextStep, Refusal>
+    requires new { IsNewMutation M.means (drawn at.now.mark.log) (state_at at.now) last mutation chain }
+    ensures step { IfOk result (MayStep M.has M.means (drawn at.now.mark.log) at.now.commit (state_at at.now) last
+        (changed.Mutated mutation)) }
+    ensures err { IfErr result (IsUnproposed (IsStop S.reused) (change_asked (changed.Mutated mutation))
+        (asked_reply M.means (state_at at.now) last (changed.Mutated mutation))) }
+    ensures late { IfErr result (λ e. e ≡ refusal.Stamps → IsLate chain.draft.first) }
+{
+    let group = at.group;
+    let alloc = group.shared.alloc;
+    match run_new(at, &chain, &mutation)? {
+        OwnRun::Ran(run) => end_new(at, chain, mutation, last, run),
+        OwnRun::Lacks(tree) => {
+            let run = AskedRun {
+                chain,
+                ran: Vec::new(alloc),
+                mutation,
+                map: RunMap::new(alloc, tree),
+                behind: Vec::new(alloc),
+            };
+            Ok(NextStep::Run(BoxedRun::new(alloc, run)?))
+        }
+    }
+}
+
+// What a mutation asks for, where it is its client's next one.
+pub(crate) fn begin_mutation<M: Runs, S: Slots<M>>(
+    at: &At<'_, M, S>,
+    spot: DraftSpot,
+    mutation: &Mutation,
+    before: LastId,
+) -> Result<NextStep, Refusal>
+    requires spot { IsDraftSpot M.means at.now spot.tip spot.first }
+    requires asks { MayAsk (drawn at.now.mark.log) before (changed.Mutated mutation.now) }
+    ensures step { IfOk result (MayStep M.has M.means (drawn at.now.mark.log) at.now.commit (state_at at.now) before.id
+        (changed.Mutated mutation.now)) }
+    ensures err { IfErr result (IsUnproposed (IsStop S.reused) (change_asked (changed.Mutated mutation.now))
+        (asked_reply M.means (state_at at.now) before.id (changed.Mutated mutation.now))) }
+    ensures first { IfOk result (IsFirstStep M.has (state_at at.now) (changed.Mutated mutation.now)) }
+    ensures late { IfErr result (λ e. e ≡ refusal.Stamps → IsLate spot.first) }
+{
+    check_next(at, mutation, before)?;
+    let again = mutation.clone()?;
+    let DraftSpot { tip, first } = spot;
+    let group = at.group;
+    let draft = Draft::new(group.shared.alloc, first);
+    begin_next(at, Chain { draft, tip }, again, before.id)
+}
+
+// The pulled map after the patch, drafted with its snapshot.
+fn draft_patched<'a, M: Runs, S: Slots<M>>(
+    at: &At<'a, M, S>,
+    spot: DraftSpot,
+    before: &Base,
+    pull: &PullOk,
+    confirmed: ConfirmedIds,
+) -> Result<Chain, Refusal>
+    requires spot { IsDraftSpot M.means at.now spot.tip spot.first }
+    requires before { IsBaseOf (drawn at.now.mark.log) (state_at at.now) before.now }
+    ensures tip { IfOk result (λ chain. HasTip (drafted (drawn at.now.mark.log) chain) chain.tip (record {
+      state = pulled_state (patched (state_at at.now).pulled pull.now.patch) pull.now.cookie confirmed;
+      read = patched (state_at at.now).pulled pull.now.patch;
+    })) }
+    ensures first { IfOk result (λ chain. chain.draft.first ≡ spot.first) }
+    ensures new { IfOk result HasNew }
+    ensures needed { IfOk result (λ chain. AreNeeded chain.draft.first chain.draft.nodes (chain.tip.commit ∷ [])) }
+    ensures err { IfErr result (IsStop S.reused) }
+    ensures late { IfErr result (λ e. e ≡ refusal.Stamps → IsLate spot.first) }
+{
+    let group = at.group;
+    let alloc = group.shared.alloc;
+    let mut draft = Draft::new(alloc, spot.first);
+    let setting = Setting {
+        alloc,
+        chunks: at.nodes(),
+        mutators: &group.mutators,
+    };
+    let tip = add_patched::<StoreNodes<'a, M, S>, Brand, M>(
+        &setting,
+        &mut draft,
+        before.pulled,
+        pull,
+        confirmed,
+    )?;
+    Ok(Chain { draft, tip })
+}
+
+// The map that mutations leave which stay pending, if the group has their mutators.
+fn run_left<'a, M: Runs, S: Slots<M>>(
+    at: &At<'a, M, S>,
+    chain: &Chain,
+    left: &[Mutation],
+) -> Result<Option<Tree>, Refusal>
+    requires behind { chain.now.draft.first ≡ length (drawn at.now.mark.log) }
+    requires tip { (s : State) × IsTip M.means (drafted (drawn at.now.mark.log) chain.now) chain.now.tip s }
+    ensures map { (s : State) → IsTip M.means (drafted (drawn at.now.mark.log) chain.now) chain.now.tip s
+        → IfOk result (λ found. IfSome found (λ tree. tree_map (drafted (drawn at.now.mark.log) chain.now) tree
+        ≡ Some (replayed M.means (view_of M.means s) left.now))) }
+    ensures err { IfErr result (IsStoreOrMemory S.reused) }
+{
+    let group = at.group;
+    let setting = Setting {
+        alloc: group.shared.alloc,
+        chunks: at.nodes(),
+        mutators: &group.mutators,
+    };
+    run_pending::<StoreNodes<'a, M, S>, Brand, M>(&setting, &chain.draft, chain.tip.root, left)
+}
+
+// What is next for a pull of which these mutations stay pending: all are run by the group, or, with notes, up to the
+// first whose run is to be asked for.
+fn begin_left<M: Runs, S: Slots<M>>(
+    at: &At<'_, M, S>,
+    chain: Chain,
+    left: Vec<Mutation>,
+) -> Result<NextStep, Refusal>
+    requires behind { chain.draft.first ≡ length (drawn at.now.mark.log) }
+    requires new { HasNew chain }
+    requires tip { (s : State) × IsTip M.means (drafted (drawn at.now.mark.log) chain) chain.tip s × (s.closed ≡ false)
+        × (s.pending ≡ []) }
+    requires needed { AreNeeded chain.draft.first chain.draft.nodes (chain.tip.commit ∷ []) }
+    ensures step { (s : State) (last : ℕ) (ticket : Cookied) (r : Pull)
+        → IsTip M.means (drafted (drawn at.now.mark.log) chain) chain.tip s → s.closed ≡ false → s.pending ≡ []
+        → IsAccepted M.means (state_at at.now) (changed.Pulled ticket r)
+        → with_more s left.items ≡ after_pull (state_at at.now) r
+        → IfOk result (MayStep M.has M.means (drawn at.now.mark.log) at.now.commit (state_at at.now) last
+        (changed.Pulled ticket r)) }
+    ensures first { IfOk result (IsOnLeft M.has left.items) }
+    ensures err { IfErr result (IsStop S.reused) }
+    ensures late { IfErr result (λ e. e ≡ refusal.Stamps → IsLate chain.draft.first) }
+{
+    let group = at.group;
+    let alloc = group.shared.alloc;
+    match run_left(at, &chain, &left)? {
+        Some(tree) => finish(at, chain, left, tree),
+        None => {
+            let tree = Tree::at(chain.tip.root);
+            let mut behind = left;
+            behind.reverse();
+            let ran = Vec::new(alloc);
+            go_on(
+                at,
+                Replaying {
+                    chain,
+                    ran,
+                    tree,
+                    behind,
+                },
+            )
+        }
+    }
+}
+
+// The pulled map after the patch, and what is next where these mutations are pending.
+fn begin_replayed<M: Runs, S: Slots<M>>(
+    at: &At<'_, M, S>,
+    spot: DraftSpot,
+    before: &Base,
+    pending: &[Mutation],
+    ticket: &Cookie,
+    pull: &PullOk,
+) -> Result<NextStep, Refusal>
+    requires spot { IsDraftSpot M.means at.now spot.tip spot.first }
+    requires before { IsBaseOf (drawn at.now.mark.log) (state_at at.now) before.now }
+    requires pending { pending.now ≡ (state_at at.now).pending }
+    requires applied { end_at (state_at at.now) ticket.now.text pull.now ≡ Ok ended.Applied }
+    ensures step { (last : ℕ) → IfOk result (MayStep M.has M.means (drawn at.now.mark.log) at.now.commit
+        (state_at at.now) last (changed.Pulled ticket.now pull.now)) }
+    ensures err { IfErr result (IsStop S.reused) }
+    ensures first { IfOk result (IsFirstStep M.has (state_at at.now) (changed.Pulled ticket.now pull.now)) }
+    ensures late { IfErr result (λ e. e ≡ refusal.Stamps → IsLate spot.first) }
+{
+    let _ticket = ticket;
+    let group = at.group;
+    let (confirmed, left) = after_changes(group.shared.alloc, before, pending, pull)?;
+    let chain = draft_patched(at, spot, before, pull, confirmed)?;
+    begin_left(at, chain, left)
+}
+
+// The pulled map after the patch, and the first run of what stays pending.
+fn begin_rebase<'a, M: Runs, S: Slots<M>>(
+    at: &At<'a, M, S>,
+    spot: DraftSpot,
+    before: &Base,
+    ticket: &Cookie,
+    pull: &PullOk,
+) -> Result<NextStep, Refusal>
+    requires spot { IsDraftSpot M.means at.now spot.tip spot.first }
+    requires before { IsBaseOf (drawn at.now.mark.log) (state_at at.now) before.now }
+    requires applied { end_at (state_at at.now) ticket.now.text pull.now ≡ Ok ended.Applied }
+    ensures step { (last : ℕ) → IfOk result
+        (MayStep M.has M.means (drawn at.now.mark.log) at.now.commit (state_at at.now) last
+        (changed.Pulled ticket.now pull.now)) }
+    ensures err { IfErr result (IsStop S.reused) }
+    ensures first { IfOk result (IsFirstStep M.has (state_at at.now) (changed.Pulled ticket.now pull.now)) }
+    ensures late { IfErr result (λ e. e ≡ refusal.Stamps → IsLate spot.first) }
+{
+    let group = at.group;
+    let pending = pending_at::<StoreNodes<'a, M, S>, Brand>(
+        group.shared.alloc,
+        at.nodes(),
+        at.commit,
+    )?;
+    begin_replayed(at, spot, before, &pending, ticket, pull)
+}
+
+// What the pull asks for first, at an open group of this basis.
+pub(crate) fn begin_outcome<M: Runs, S: Slots<M>>(
+    at: &At<'_, M, S>,
+    spot: DraftSpot,
+    before: &Base,
+    ticket: &Cookie,
+    pull: &PullOk,
+) -> Result<NextStep, Refusal>
+    requires spot { IsDraftSpot M.means at.now spot.tip spot.first }
+    requires before { IsBaseOf (drawn at.now.mark.log) (state_at at.now) before.now }
+    ensures step { (last : ℕ) → IfOk result
+        (MayStep M.has M.means (drawn at.now.mark.log) at.now.commit (state_at at.now) last
+        (changed.Pulled ticket.now pull.now)) }
+    ensures err { (last : ℕ) → IfErr result
+        (IsUnproposed (IsStop S.reused) (change_asked (changed.Pulled ticket.now pull.now))
+        (asked_reply M.means (state_at at.now) last (changed.Pulled ticket.now pull.now))) }
+    ensures first { IfOk result (IsFirstStep M.has (state_at at.now) (changed.Pulled ticket.now pull.now)) }
+    ensures late { IfErr result (λ e. e ≡ refusal.Stamps → IsLate spot.first) }
+{
+    match pull_outcome(before, ticket, pull) {
+        Ok(Ended::Same) => {
+            return Ok(NextStep::Same);
+        }
+        Ok(Ended::Applied) => {
+            return begin_rebase(at, spot, before, ticket, pull);
+        }
+        Err(e) => {
+            return Err(e);
+        }
+    }
+}

@@ -1,0 +1,125 @@
+//! Changes: their tries, one after the other.
+ghost use Rattle.std.specs.Prelude.{◌≡◌, ◌<◌, ◌≤◌, [], max, Some, IfOk, IfErr, IfSome};
+ghost use Rattle.head_word.specs.Books.{drawn};
+ghost use Rattle.chunk_slots.specs.Seats.{IsIdle};
+ghost use Rattle.commit_graph.specs.Seats.{IsSameSeat, IsSeatOf, SeatState};
+ghost use Rattle.linearized.specs.Answered.{IsLinearized};
+ghost use Rattle.change_tries.specs.Causes.{HasCause};
+ghost use Rattle.change_tries.specs.Changing.{is_made};
+ghost use Rattle.change_tries.specs.Leaving.{Frees, spared};
+ghost use Rattle.change_tries.specs.Missing.{map_ok};
+ghost use Rattle.change_tries.specs.Proposing.{HasLast, MayAsk, StaysFound, asked_reply, change_asked};
+ghost use Rattle.change_tries.specs.Runs.{IsRunOf};
+ghost use Rattle.change_tries.specs.Tries.{FollowsRun, StartsAnew, IsArrivedSince, IsAttempt, IsProgress, IsSince};
+ghost use Rattle.change_tries.specs.Tries.{TellsProgress};
+
+use crate::group::SharedGroup;
+use crate::proposing::Request;
+use crate::trying::{Attempt, Progress, TryOutcome, begin_try, ran_there};
+use change_drafts::Runs;
+use chunk_slots::Store;
+use commit_graph::{ClientSeat, LastId};
+use group_history::{Change, Mutators, Ran, Ref, Refusal};
+
+/// Asks for the first run of a change, which lost so many tries to others before; or ends it, where it needs none. It
+/// is tried anew where others moved the head first, `tries` times in all and once at least.
+pub fn ask_from<M: Runs, S: Store<M>>(
+    group: &SharedGroup<M, S>,
+    seat: &mut ClientSeat<M, S>,
+    change: &Change,
+    found: &mut LastId,
+    lost: u32,
+    tries: u32,
+) -> Progress<M>
+    requires home { IsSeatOf group.now.shared seat.old }
+    requires none { S.reused → seat.old.view.taken ≡ [] }
+    requires asks { MayAsk (drawn seat.old.mark.log) found.old change.now }
+    requires few { lost ≤ max 1 tries }
+    requires idle { 0 < lost → S.reused → IsIdle seat.old.view }
+    ensures seat { IsSameSeat seat.old seat.new }
+    ensures stands { IsProgress M.has M.means S.reused group.now.shared seat.new tries found.old.id change.now
+        result }
+    ensures first { StartsAnew M.has lost change.now result }
+    ensures kept { StaysFound (drawn seat.new.mark.log) found.old found.new change.now }
+    ensures told { (before : SeatState) → IsSince S.reused before lost change.now seat.old
+        → TellsProgress M.means S.reused tries before seat.new found.old.id change.now result }
+{
+    for tried in lost..tries.max(1) {
+        match begin_try::<M, S>(group, seat, change, found, tried, tries) {
+            Some(progress) => {
+                return progress;
+            }
+            None => {}
+        }
+    }
+    Progress::Ended(Err(Refusal::Moved))
+}
+
+/// Goes on with the change where the run that it asked for ended so: the next run is asked for, or the call ends. Where
+/// others moved the head first, all runs are asked for anew.
+pub fn ran_from<M: Runs, S: Store<M>>(
+    group: &SharedGroup<M, S>,
+    seat: &mut ClientSeat<M, S>,
+    attempt: Attempt<M>,
+    change: &Change,
+    found: &mut LastId,
+    ran: Ran,
+    tries: u32,
+) -> Progress<M>
+    requires attempt { IsAttempt M.means S.reused group.now.shared seat.old found.old.id
+        change.now attempt }
+    requires few { attempt.lost < max 1 tries }
+    requires asks { MayAsk (drawn seat.old.mark.log) found.old change.now }
+    requires ran { IsRunOf M.means (drawn seat.old.mark.log) attempt.run ran }
+    ensures seat { IsSameSeat seat.old seat.new }
+    ensures stands { IsProgress M.has M.means S.reused group.now.shared seat.new tries found.old.id
+        change.now result }
+    ensures next { FollowsRun M.has M.means seat.old seat.new attempt ran change.now result }
+    ensures kept { StaysFound (drawn seat.new.mark.log) found.old found.new change.now }
+    ensures told { (before : SeatState) → IsArrivedSince M.means S.reused before attempt.lost change.now
+        attempt.arrival.seen.log seat.old
+        → TellsProgress M.means S.reused tries before seat.new found.old.id change.now result }
+{
+    let Attempt { arrival, run, lost } = attempt;
+    let before = *found;
+    let request = Request {
+        change,
+        before,
+        tries,
+    };
+    match ran_there::<M, S>(group, seat, &arrival, &request, run, ran) {
+        TryOutcome::Run(run) => Progress::Run(Attempt { arrival, run, lost }),
+        TryOutcome::Ended(made) => Progress::Ended(made),
+        TryOutcome::Lost => ask_from::<M, S>(group, seat, change, found, lost + 1, tries),
+    }
+}
+
+/// Makes a change that a client asks for, of a group that has all mutators, and answers the commit where it stands:
+/// none where there is nothing to change. It is tried anew where others moved the head first, `tries` times and once at
+/// least. Where its client's last id was found by the way stays known, also where the change is refused.
+pub fn make_change<M: Mutators, S: Store<M>>(
+    group: &SharedGroup<M, S>,
+    seat: &mut ClientSeat<M, S>,
+    change: &Change,
+    found: &mut LastId,
+    tries: u32,
+) -> Result<Option<Ref>, Refusal>
+    requires home { IsSeatOf group.now.shared seat.old }
+    requires none { S.reused → seat.old.view.taken ≡ [] }
+    requires asks { MayAsk (drawn seat.old.mark.log) found.old change.now }
+    ensures seat { IsSameSeat seat.old seat.new }
+    ensures idle { S.reused → IsIdle seat.new.view }
+    ensures answer { IsLinearized M.means tries seat.old.mark seat.new.mark (map_ok is_made result)
+        (change_asked change.now) (λ s. asked_reply M.means s found.old.id change.now) }
+    ensures found { IfOk result (λ made. IfSome made (λ at. HasLast (drawn seat.new.mark.log) at change.now)) }
+    ensures cause { IfErr result (HasCause M.means S.reused found.old.id (Some change.now)
+        seat.old seat.new) }
+    ensures frees { S.reused → Frees (Some change.now) (spared result) seat.old seat.new
+        (change_asked change.now (map_ok is_made result)) }
+    ensures kept { StaysFound (drawn seat.new.mark.log) found.old found.new change.now }
+{
+    match ask_from::<M, S>(group, seat, change, found, 0, tries) {
+        Progress::Ended(made) => made,
+        Progress::Run(_) => unreachable!(),
+    }
+}

@@ -1,5 +1,0 @@
-use Rattle.std.proofs.Common.{rules}
-use Rattle.giqaymu_c.proofs.spots.Spot.reply.Goals as goal
-
-pub returns : goal.returns
-returns g c = search rules

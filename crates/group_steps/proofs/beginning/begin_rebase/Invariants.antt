@@ -1,6 +1,0 @@
-use Rattle.head_word.specs.Books.{drawn}
-use Rattle.group_steps.proofs.beginning.begin_rebase.Given as goal
-
--- the nodes that the seat knows
-abbrev pub ghosts-pending_at : goal.ghosts-pending_at
-ghosts-pending_at g a = record { known = drawn a.nodes.mark.now.log }

@@ -1,6 +1,0 @@
-use Rattle.head_word.specs.Books.{drawn}
-use Rattle.group_steps.proofs.requests.begin_request.Given as goal
-
--- the nodes that the seat knows
-abbrev pub ghosts-look_at : goal.ghosts-look_at
-ghosts-look_at g a = record { known = drawn a.nodes.mark.now.log }

@@ -1,6 +1,0 @@
-use Rattle.map_chunks.specs.Places.{with_nodes}
-use Rattle.replays.proofs.asked.RunMap.put_on.Given as goal
-
--- what is placed, and the draft at hand
-abbrev pub ghosts-put : goal.ghosts-put
-ghosts-put g a = record { known = with_nodes g.K.NamesContents.known a.chunks.draft.now.nodes }

@@ -1,9 +1,0 @@
-use Rattle.std.proofs.Common.{subst}
-use Rattle.replays.specs.Running.{MayRun}
-use Rattle.replays.specs.declared.runs.OwnRun.{OwnRun}
-use Rattle.replays.proofs.locals.tree_if_ran.Goals as goal
-
-pub returns-in-Ok : goal.returns-in-Ok
-returns-in-Ok c contents has meaning m may =
-    let run = subst (λ (w : OwnRun). MayRun contents has meaning m w) c.in-Ran.is may in
-    c.in-Ok.ensures.ok contents meaning run.1
