@@ -16,4 +16,5 @@ mod Rooted
 mod Narrowing
 mod Noting
 mod Topping
+mod Rowing
 pub mod Seating

@@ -1,37 +1,40 @@
 //! Nodes by their stamps, of which the greatest is taken.
 //!
-//! A walk takes most of what it adds at once: of a chunk's children one at most is newer than all that is ahead. So the
-//! greatest is kept on hand, beside a tree of the others.
-ghost use Rattle.std.specs.Prelude.{◌≡◌, ◌<◌, ◌++◌, [], ◌∷◌, ℕ, IfSome, IfNone, IsTrue, OnOk};
+//! The newest stand in a row, beside a tree of the others. Where the row is at its end, it begins anew a few stamps below
+//! the next one that is put in; so what a chunk names is mostly near, and the tree has what is far.
+ghost use Rattle.std.specs.Prelude.{◌≡◌, ◌<◌, ◌++◌, [], ◌∷◌, ℕ, map, IfOk, IfSome, IfNone, IsTrue, OnOk};
 ghost use Rattle.std.specs.BTreeMap.{keys};
 ghost use Rattle.std.specs.List.{Contains};
-ghost use Rattle.commit_graph.specs.Inside.Reach.{stamp_in, Joins};
+ghost use Rattle.commit_graph.specs.Inside.Reach.{stamp_in, AreKeyed, AreUnder, Joins};
 ghost use Rattle.commit_graph.specs.declared.founds.NamedNode.{NamedNode as Finding};
 
 use crate::founds::NamedNode;
+use crate::near::Near;
 use std::alloc::{AllocError, Global};
 use std::collections::BTreeMap;
 use std::marker::Model;
 
+// How many stamps lower than the next one a row begins.
+const BEFORE: u64 = 16;
+
 /// Nodes, one for each stamp.
 #[derive(Drop)]
 pub struct Ahead {
+    // Those whose stamps are below the lowest one of the row.
     tree: BTreeMap<u64, NamedNode>,
-    // One whose stamp is above all in the tree.
-    top: Option<NamedNode>,
+    near: Near,
 }
 
 impl Model for Ahead {
     ghost use Rattle.std.specs.Prelude.{List, map, ◌++◌};
     ghost use Rattle.commit_graph.specs.declared.founds.NamedNode.{NamedNode as Finding};
-    ghost use Rattle.commit_graph.specs.Inside.Chains.{listed};
-    ghost use Rattle.commit_graph.specs.Inside.Reach.{AreKeyed, IsTop};
+    ghost use Rattle.commit_graph.specs.Inside.Reach.{AreKeyed, AreUnder};
 
     ghost Value = { List Finding };
 
-    ghost view = { λ a. map (λ e. e.1) a.tree.entries ++ listed a.top };
+    ghost view = { λ a. map (λ e. e.1) a.tree.entries ++ a.near.nodes };
 
-    ghost invariant = { λ a. AreKeyed a.tree.entries × IsTop a.top (map (λ e. e.1) a.tree.entries) };
+    ghost invariant = { λ a. AreKeyed a.tree.entries × AreUnder a.near.low (map (λ e. e.1) a.tree.entries) };
 }
 
 /// The stamp of a node that was found.
@@ -54,14 +57,40 @@ fn is_above(tree: &BTreeMap<u64, NamedNode>, stamp: u64) -> bool
     }
 }
 
+// Begins a row anew at its end, some stamps lower than this one, or at it, if all in the tree are below.
+fn begin(near: &mut Near, tree: &BTreeMap<u64, NamedNode>, stamp: u64)
+    requires none { near.old.nodes ≡ [] }
+    requires keyed { AreKeyed tree.now.entries }
+    requires under { AreUnder near.old.low (map (λ e. e.1) tree.now.entries) }
+    ensures none { near.new.nodes ≡ [] }
+    ensures under { AreUnder near.new.low (map (λ e. e.1) tree.now.entries) }
+{
+    let low = stamp.saturating_sub(BEFORE);
+    if is_above(tree, low) {
+        near.begin(low);
+    } else if is_above(tree, stamp) {
+        near.begin(stamp);
+    }
+}
+
 impl Ahead {
-    /// None.
-    pub fn new(alloc: Global) -> Ahead
-        ensures { result ≡ [] }
+    /// None, with so many places for the stamps from a lowest one on.
+    pub fn new(alloc: Global, low: u64, places: usize) -> Result<Ahead, AllocError>
+        ensures { IfOk result (λ ahead. ahead ≡ []) }
     {
-        Ahead {
+        let near = Near::new(alloc, low, places)?;
+        Ok(Ahead {
             tree: BTreeMap::new(alloc),
-            top: None,
+            near,
+        })
+    }
+
+    // Begins the row anew where it is at its end.
+    fn renew(&mut self, stamp: u64)
+        ensures { self.new ≡ self.old }
+    {
+        if self.near.is_empty() {
+            begin(&mut self.near, &self.tree, stamp);
         }
     }
 
@@ -70,25 +99,12 @@ impl Ahead {
         ensures { OnOk result (Joins self.old (found ∷ []) self.new) }
     {
         let stamp = stamp_in(found);
-        let Some(top) = self.top else {
-            if is_above(&self.tree, stamp) {
-                self.top = Some(found);
-                return Ok(());
-            }
-            self.tree.insert(stamp, found)?;
-            return Ok(());
-        };
-        let greatest = stamp_in(top);
-        if stamp < greatest {
+        self.renew(stamp);
+        if stamp < self.near.low() {
             self.tree.insert(stamp, found)?;
             return Ok(());
         }
-        if stamp == greatest {
-            return Ok(());
-        }
-        self.tree.insert(greatest, top)?;
-        self.top = Some(found);
-        Ok(())
+        self.near.put(found)
     }
 
     /// Takes the node of the greatest stamp.
@@ -98,8 +114,7 @@ impl Ahead {
         ensures greatest { IfSome result (λ found. (other : Finding) → Contains self.new other
             → stamp_in other < stamp_in found) }
     {
-        if let Some(found) = self.top {
-            self.top = None;
+        if let Some(found) = self.near.pop() {
             return Some(found);
         }
         let (_, found) = self.tree.pop_last()?;

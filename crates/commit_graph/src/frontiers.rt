@@ -31,26 +31,33 @@ impl Model for Frontier {
 }
 
 impl Frontier {
-    /// Of a walk that has met one stamp and looks at nothing yet.
-    pub fn new(alloc: Global, stamp: u64) -> Result<Frontier, AllocError>
+    /// Of a walk that has met one stamp and looks at nothing yet, with so many places for the stamps from a lowest one on.
+    pub fn new(alloc: Global, stamp: u64, low: u64, places: usize) -> Result<Frontier, AllocError>
         ensures ahead { IfOk result (λ frontier. frontier.ahead ≡ []) }
         ensures met { IfOk result (λ frontier. (x : ℕ) → Contains frontier.met x → x ≡ stamp) }
     {
         let met = Met::new(alloc, stamp)?;
-        Ok(Frontier {
-            ahead: Ahead::new(alloc),
-            met,
-        })
+        let ahead = Ahead::new(alloc, low, places)?;
+        Ok(Frontier { ahead, met })
     }
 
     /// Adds a node, unless it is known to be met.
+    #[inline(always)]
     pub fn add(&mut self, found: NamedNode) -> Result<(), AllocError>
         ensures { OnOk result (Adds self.old (found ∷ []) self.new) }
     {
-        let stamp = stamp_in(found);
-        if self.met.has(stamp) {
+        if self.met.has(stamp_in(found)) {
             return Ok(());
         }
+        self.add_new(found)
+    }
+
+    // Adds a node that isn't known to be met. Most are, so this stays out of the loops that add.
+    #[inline(never)]
+    fn add_new(&mut self, found: NamedNode) -> Result<(), AllocError>
+        ensures { OnOk result (Adds self.old (found ∷ []) self.new) }
+    {
+        let stamp = stamp_in(found);
         self.ahead.put(found)?;
         self.met.note(stamp);
         Ok(())

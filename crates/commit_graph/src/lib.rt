@@ -36,6 +36,7 @@ mod looks;
 mod meeting;
 mod merging;
 mod met;
+mod near;
 mod nodes;
 mod reaching;
 mod seats;

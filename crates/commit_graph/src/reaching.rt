@@ -23,8 +23,9 @@ use crate::keeping::{base_root, is_kept};
 use crate::looks::look;
 use crate::merging::{add, without};
 use crate::nodes::Nodes;
+use crate::states::snapshot_of;
 use group_history::{Ref, Stop};
-use std::alloc::{AllocError, Global};
+use std::alloc::Global;
 
 fn ref_in(found: NamedNode) -> Ref
     ensures { result ≡ ref_in found }
@@ -66,12 +67,23 @@ fn visit<N: Nodes>(
     Ok(())
 }
 
-// A walk that looks at a commit first, and knows of a root alone that it was met.
-fn begun(alloc: Global, head: Ref, root: Ref) -> Result<Frontier, AllocError>
-    ensures { IfOk result (λ frontier. Adds (record { ahead = []; met = stamp_of root ∷ [] })
+// How many places a walk has at first.
+const MOST_PLACES: u64 = 65_536;
+
+// A walk that looks at a commit first, and knows of a root alone that it was met. It has a place for each stamp since
+// the commit's snapshot, since it comes to most of them.
+fn begun<N: Nodes>(alloc: Global, nodes: &mut N, head: Ref, root: Ref) -> Result<Frontier, Stop>
+    requires head { IsSome (version_at (N.contents nodes.old) (stamp_of head)) }
+    requires place { N.places nodes.old head }
+    ensures grown { Grows N.contents N.places nodes.old nodes.new }
+    ensures begun { IfOk result (λ frontier. Adds (record { ahead = []; met = stamp_of root ∷ [] })
         (found.Commit head ∷ []) frontier) }
+    ensures stopped { IfErr result (λ stop. (stop ≡ NoMemory) ⊎ N.stops stop) }
 {
-    let mut frontier = Frontier::new(alloc, root.stamp())?;
+    let snapshot = snapshot_of(nodes, head)?;
+    let stamp = head.stamp();
+    let places = stamp.saturating_sub(snapshot.stamp()).min(MOST_PLACES);
+    let mut frontier = Frontier::new(alloc, root.stamp(), stamp - places, places as usize)?;
     frontier.add(NamedNode::Commit(head))?;
     Ok(frontier)
 }
@@ -94,7 +106,7 @@ fn reachable<N: Nodes>(
     ensures places { IfOk result (λ xs. AreAll (N.places nodes.new) xs.items) }
     ensures stopped { IfErr result (λ stop. (stop ≡ NoMemory) ⊎ N.stops stop) }
 {
-    let mut frontier = begun(alloc, head, part.root)?;
+    let mut frontier = begun(alloc, nodes, head, part.root)?;
     let mut listed = Vec::new(alloc);
     while let Some(at) = frontier.pop() {
         visit(nodes, part, &mut frontier, &mut listed, at)?;

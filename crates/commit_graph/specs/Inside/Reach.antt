@@ -1,5 +1,5 @@
 -- What a walk has found, and how its lists stand to one another.
-use Rattle.std.specs.Prelude.{ℕ, ◌≡◌, ◌<◌, ◌⊎◌, ◌↔◌, List, ◌∷◌, map, Option, Some}
+use Rattle.std.specs.Prelude.{ℕ, suc, ◌≡◌, ◌<◌, ◌⊎◌, ◌↔◌, List, [], ◌∷◌, ◌++◌, map, Option, Some, IfSome}
 use Rattle.std.specs.List.{Contains}
 use Rattle.group_history.specs.declared.nodes.Node.{Node}
 use Rattle.group_history.specs.declared.nodes.Node.TheVariants as node
@@ -9,6 +9,7 @@ use Rattle.group_history.specs.Naming.{chunk_children, commits_named}
 use Rattle.group_history.specs.Spelling.{Contents, Segment, Version, segment_at, version_at}
 use Rattle.commit_graph.specs.declared.founds.NamedNode.{NamedNode}
 use Rattle.commit_graph.specs.declared.founds.NamedNode.TheVariants as found
+use Rattle.commit_graph.specs.Inside.Chains.{listed}
 use Rattle.commit_graph.specs.Reach.{stamps_of}
 
 -- the reference of a node that was found, and its stamp
@@ -47,9 +48,24 @@ pub record Joins (olds xs news : List NamedNode) : Type 0 where
   pub kept : (f : NamedNode) → Contains olds f → HasStamp news (stamp_in f)
   pub added : (f : NamedNode) → Contains xs f → HasStamp news (stamp_in f)
 
--- where one stands at the top, each of the others has a smaller stamp
-abbrev pub IsTop : Option NamedNode → List NamedNode → Type 0
-IsTop top fs = (t f : NamedNode) → top ≡ Some t → Contains fs f → stamp_in f < stamp_in t
+-- the nodes that stand in a row
+abbrev pub row_nodes : List (Option NamedNode) → List NamedNode
+row_nodes [] = []
+row_nodes (o ∷ os) = listed o ++ row_nodes os
+
+-- each bears the stamp of its place, of which this is the first one's
+abbrev pub StandFrom : ℕ → List (Option NamedNode) → Type 0
+StandFrom low [] = Unit {0}
+StandFrom low (o ∷ os) = IfSome o (λ f. stamp_in f ≡ low) × StandFrom (suc low) os
+
+-- nodes whose stamps aren't below the lowest one
+pub record FromLow : Type 0 where
+  pub low : ℕ
+  pub nodes : List NamedNode
+
+-- each of these has a smaller stamp
+abbrev pub AreUnder : ℕ → List NamedNode → Type 0
+AreUnder low fs = (f : NamedNode) → Contains fs f → stamp_in f < low
 
 -- What a walk still has to look at, and some of the stamps that it has met.
 pub record Walked : Type 0 where

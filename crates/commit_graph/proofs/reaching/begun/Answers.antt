@@ -6,11 +6,11 @@ use Rattle.commit_graph.specs.declared.founds.NamedNode.{NamedNode}
 use Rattle.commit_graph.specs.Inside.Reach.{stamp_in}
 use Rattle.commit_graph.proofs.reaching.begun.Goals as goal
 
-pub returns : goal.returns
-returns c =
+pub returns-clause-begun : goal.returns-clause-begun
+returns-clause-begun g c =
     let a = c.in_ok-add.ensures in let root = stamp_of c.args.root in
     let only : (x : ℕ) → Contains c.in_ok-frontier.frontier.met x → Contains (root ∷ []) x =
-    λ x h. subst (λ (w : ℕ). Contains (root ∷ []) w) (sym (c.in_ok-frontier.ensures.met x h ∙ c.stamp.ensures.stamp))
+    λ x h. subst (λ (w : ℕ). Contains (root ∷ []) w) (sym (c.in_ok-frontier.ensures.met x h ∙ c.stamp-2.ensures.stamp))
     (one_here root) in
     record {
       from = λ f h. elim (a.from f h) [

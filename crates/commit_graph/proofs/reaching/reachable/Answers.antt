@@ -20,10 +20,15 @@ loop-at-init g c =
     let root = stamp_of c.args.part.root in
     let v = some_version m (stamp_of c.args.head) c.requires.head in
     let may = g.N.Chunks.places c.args.nodes.now in
-    subst (λ (w : List Ref). IsListing may may m m c.args.head root w c.in_ok-frontier.frontier)
+    let grown = c.begun.ensures.grown in
+    subst (λ (w : List Ref). IsListing may (g.N.Chunks.places c.begun.new.nodes) m
+    (g.N.Chunks.contents c.begun.new.nodes) c.args.head root w c.in_ok-frontier.frontier)
     (sym c.new-listed.ensures.items)
+    (listing_grown may may (g.N.Chunks.places c.begun.new.nodes) m m (g.N.Chunks.contents c.begun.new.nodes) c.args.head
+    root [] c.in_ok-frontier.frontier
     (listing_begins may m c.args.head root v.0 (record { ahead = []; met = root ∷ [] }) c.in_ok-frontier.frontier v.1
-    c.requires.root refl (λ x h. sym (only_one root x h)) c.in_ok-frontier.ensures (prefix_self m) c.requires.places.0)
+    c.requires.root refl (λ x h. sym (only_one root x h)) c.in_ok-frontier.ensures.begun (prefix_self m)
+    c.requires.places.0) grown.0 grown.1)
 
 pub visit-requires-clause-found : goal.visit-requires-clause-found
 visit-requires-clause-found g c =

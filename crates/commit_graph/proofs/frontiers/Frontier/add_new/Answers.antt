@@ -2,7 +2,7 @@ use Rattle.std.proofs.Common.{◌≡◌, ℕ, [], ◌∷◌, subst, ◌⊎◌}
 use Rattle.std.specs.List.{Contains}
 use Rattle.commit_graph.specs.Inside.Reach.{Adds, Walked, stamp_in}
 use Rattle.commit_graph.proofs.Findings.{adds_one}
-use Rattle.commit_graph.proofs.frontiers.Frontier.add.Goals as goal
+use Rattle.commit_graph.proofs.frontiers.Frontier.add_new.Goals as goal
 
 pub returns : goal.returns
 returns c =
