@@ -240,9 +240,17 @@ pub struct Commit<R> {
 }
 
 /// A commit behind a pointer: so a node takes no more room than a chunk needs, 48 bytes.
-#[derive(Drop)]
 pub struct BoxedCommit<R> {
     pub(crate) inner: Box<Commit<R>>,
+}
+
+impl<R: Drop> Drop for BoxedCommit<R> {
+    // Of the nodes that a change lets go one is a commit: the others are dropped without a call.
+    #[inline(never)]
+    fn drop(self) {
+        let BoxedCommit { inner } = self;
+        drop(inner);
+    }
 }
 
 impl<R> Model for BoxedCommit<R> {
@@ -284,6 +292,7 @@ pub enum Node<R> {
 }
 
 impl<R: Drop> Drop for Node<R> {
+    #[inline]
     fn drop(self) {
         match self {
             Node::Chunk(chunk) => drop(chunk),

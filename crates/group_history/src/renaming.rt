@@ -22,11 +22,14 @@ fn renamed_ref(at: Ref, from: u64, refs: &[Ref]) -> Ref
     }
 }
 
+// Most children were placed before, and stay as they are.
 fn rename_all(mut children: Vec<Ref>, from: u64, refs: &[Ref]) -> Vec<Ref>
     ensures { result.items ≡ map (placed_ref from refs.now) children.items }
 {
     for place in 0..children.len() {
-        children[place] = renamed_ref(children[place], from, refs);
+        if children[place].stamp() >= from {
+            children[place] = renamed_ref(children[place], from, refs);
+        }
     }
     children
 }

@@ -11,13 +11,14 @@ ghost use Rattle.group_history.specs.Spelling.{Segment, segment_at};
 ghost use Rattle.map_chunks.specs.Inside.Depths.{IsFirst, has_none};
 ghost use Rattle.map_chunks.specs.Inside.Steps.{IsStep};
 
-use crate::chunks::Chunks;
+use crate::chunks::{Chunks, ShowsChunk};
 use crate::looks::{Descent, look_at};
 use crate::search::{place_for, value_for};
 use group_history::{Chunk, Json, Ref, SearchKey, Stop};
 use std::alloc::AllocError;
 
 // What a chunk says of a key.
+#[inline(always)]
 fn step_of(chunk: &Chunk<Ref>, key: &SearchKey<'_>) -> Result<Descent, AllocError>
     ensures { IfOk result (IsStep chunk.now key.now) }
 {
@@ -49,7 +50,8 @@ pub fn get_placed<C: Chunks>(chunks: &mut C, at: Ref, key: &str) -> Result<Optio
     get_for(chunks, at, &SearchKey::new(key))
 }
 
-// The same, of a key whose first bytes were read already.
+// The same, of a key whose first bytes were read already. What a chunk says is told apart before the chunk is left, so
+// that a way on below it doesn't move the room of a value.
 fn get_for<C: Chunks>(chunks: &mut C, at: Ref, key: &SearchKey<'_>) -> Result<Option<Json>, Stop>
     requires known { IsTree (chunk_rows (C.contents chunks.old) (stamp_of at)) }
     requires place { C.places chunks.old at }
@@ -58,16 +60,23 @@ fn get_for<C: Chunks>(chunks: &mut C, at: Ref, key: &SearchKey<'_>) -> Result<Op
         (rows_or (chunk_rows (C.contents chunks.old) (stamp_of at)))) }
     ensures stopped { IfErr result (λ s. (s ≡ NoMemory) ⊎ C.stops s) }
 {
-    let step = look_at(
-        chunks,
-        at,
-        &mut |chunk|
-            ensures { IfOk result (IsStep chunk.now key.entry.now) }
-        { step_of(chunk, key) },
-    )?;
-    match step? {
-        Descent::Found(value) => Ok(value),
-        Descent::Below(child) => get_for(chunks, child, key),
+    let mut at = at;
+    loop {
+        let held = chunks.show(at)?;
+        match step_of(held.chunk(), key) {
+            Ok(Descent::Below(child)) => {
+                chunks.leave(held);
+                at = child;
+            }
+            Ok(Descent::Found(value)) => {
+                chunks.leave(held);
+                return Ok(value);
+            }
+            Err(_refused) => {
+                chunks.leave(held);
+                return Err(Stop::NoMemory);
+            }
+        }
     }
 }
 

@@ -60,8 +60,11 @@ impl<'a> SearchKey<'a> {
     {
         if let Kept::Short(short) = &text.kept {
             let front = short.front();
-            if front != self.front {
-                return front > self.front;
+            if front < self.front {
+                return false;
+            }
+            if self.front < front {
+                return true;
             }
         }
         self.is_below_all(text)

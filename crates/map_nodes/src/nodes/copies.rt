@@ -76,7 +76,11 @@ pub(crate) fn copied_values(
 ) -> Result<Vec<Json>, AllocError>
     ensures { IfOk result (λ copy. copy.items ≡ values.now) }
 {
-    let mut copy = Vec::with_capacity(alloc, values.len().max(room))?;
+    // Where no room is wanted beside them, none is looked for at each value.
+    if room <= values.len() {
+        return values.to_vec(alloc);
+    }
+    let mut copy = Vec::with_capacity(alloc, room)?;
     for value in values {
         copy.push(value.clone()?)?;
     }
