@@ -247,20 +247,19 @@ fn begin_replayed<M: Runs, S: Slots<M>>(
     spot: DraftSpot,
     before: &Base,
     pending: &[Mutation],
-    ticket: &Cookie,
     pull: &PullOk,
 ) -> Result<NextStep, Refusal>
     requires spot { IsDraftSpot M.means at.now spot.tip spot.first }
     requires before { IsBaseOf (drawn at.now.mark.log) (state_at at.now) before.now }
     requires pending { pending.now ≡ (state_at at.now).pending }
-    requires applied { end_at (state_at at.now) ticket.now.text pull.now ≡ Ok ended.Applied }
-    ensures step { (last : ℕ) → IfOk result (MayStep M.has M.means (drawn at.now.mark.log) at.now.commit
-        (state_at at.now) last (changed.Pulled ticket.now pull.now)) }
+    ensures step { (last : ℕ) (ticket : Cookied) → end_at (state_at at.now) ticket.text pull.now ≡ Ok ended.Applied
+        → IfOk result (MayStep M.has M.means (drawn at.now.mark.log) at.now.commit (state_at at.now) last
+        (changed.Pulled ticket pull.now)) }
     ensures err { IfErr result (IsStop S.reused) }
-    ensures first { IfOk result (IsFirstStep M.has (state_at at.now) (changed.Pulled ticket.now pull.now)) }
+    ensures first { (ticket : Cookied)
+        → IfOk result (IsFirstStep M.has (state_at at.now) (changed.Pulled ticket pull.now)) }
     ensures late { IfErr result (λ e. e ≡ refusal.Stamps → IsLate spot.first) }
 {
-    let _ticket = ticket;
     let group = at.group;
     let (confirmed, left) = after_changes(group.shared.alloc, before, pending, pull)?;
     let chain = draft_patched(at, spot, before, pull, confirmed)?;
@@ -272,17 +271,16 @@ fn begin_rebase<'a, M: Runs, S: Slots<M>>(
     at: &At<'a, M, S>,
     spot: DraftSpot,
     before: &Base,
-    ticket: &Cookie,
     pull: &PullOk,
 ) -> Result<NextStep, Refusal>
     requires spot { IsDraftSpot M.means at.now spot.tip spot.first }
     requires before { IsBaseOf (drawn at.now.mark.log) (state_at at.now) before.now }
-    requires applied { end_at (state_at at.now) ticket.now.text pull.now ≡ Ok ended.Applied }
-    ensures step { (last : ℕ) → IfOk result
-        (MayStep M.has M.means (drawn at.now.mark.log) at.now.commit (state_at at.now) last
-        (changed.Pulled ticket.now pull.now)) }
+    ensures step { (last : ℕ) (ticket : Cookied) → end_at (state_at at.now) ticket.text pull.now ≡ Ok ended.Applied
+        → IfOk result (MayStep M.has M.means (drawn at.now.mark.log) at.now.commit (state_at at.now) last
+        (changed.Pulled ticket pull.now)) }
     ensures err { IfErr result (IsStop S.reused) }
-    ensures first { IfOk result (IsFirstStep M.has (state_at at.now) (changed.Pulled ticket.now pull.now)) }
+    ensures first { (ticket : Cookied)
+        → IfOk result (IsFirstStep M.has (state_at at.now) (changed.Pulled ticket pull.now)) }
     ensures late { IfErr result (λ e. e ≡ refusal.Stamps → IsLate spot.first) }
 {
     let group = at.group;
@@ -291,7 +289,7 @@ fn begin_rebase<'a, M: Runs, S: Slots<M>>(
         at.nodes(),
         at.commit,
     )?;
-    begin_replayed(at, spot, before, &pending, ticket, pull)
+    begin_replayed(at, spot, before, &pending, pull)
 }
 
 // What the pull asks for first, at an open group of this basis.
@@ -318,7 +316,7 @@ pub(crate) fn begin_outcome<M: Runs, S: Slots<M>>(
             return Ok(NextStep::Same);
         }
         Ok(Ended::Applied) => {
-            return begin_rebase(at, spot, before, ticket, pull);
+            return begin_rebase(at, spot, before, pull);
         }
         Err(e) => {
             return Err(e);

@@ -14,38 +14,38 @@ ghost use Rattle.change_tries.specs.Tries.{FollowsRun, StartsAnew, IsArrivedSinc
 ghost use Rattle.change_tries.specs.Tries.{TellsProgress};
 
 use crate::group::SharedGroup;
-use crate::proposing::Request;
-use crate::trying::{Attempt, Progress, TryOutcome, begin_try, ran_there};
+use crate::proposing::{ChangeCall, Request};
+use crate::runs::EndedRun;
+use crate::trying::{Attempt, EndedAttempt, Progress, TryOutcome, begin_try, ran_there};
 use change_drafts::Runs;
 use chunk_slots::Store;
 use commit_graph::{ClientSeat, LastId};
-use group_history::{Change, Mutators, Ran, Ref, Refusal};
+use group_history::{Change, Mutators, Ref, Refusal};
 
 /// Asks for the first run of a change, which lost so many tries to others before; or ends it, where it needs none. It
 /// is tried anew where others moved the head first, `tries` times in all and once at least.
 pub fn ask_from<M: Runs, S: Store<M>>(
     group: &SharedGroup<M, S>,
     seat: &mut ClientSeat<M, S>,
-    change: &Change,
+    call: &ChangeCall<'_>,
     found: &mut LastId,
     lost: u32,
-    tries: u32,
 ) -> Progress<M>
     requires home { IsSeatOf group.now.shared seat.old }
     requires none { S.reused → seat.old.view.taken ≡ [] }
-    requires asks { MayAsk (drawn seat.old.mark.log) found.old change.now }
-    requires few { lost ≤ max 1 tries }
+    requires asks { MayAsk (drawn seat.old.mark.log) found.old call.now.change.now }
+    requires few { lost ≤ max 1 call.now.tries }
     requires idle { 0 < lost → S.reused → IsIdle seat.old.view }
     ensures seat { IsSameSeat seat.old seat.new }
-    ensures stands { IsProgress M.has M.means S.reused group.now.shared seat.new tries found.old.id change.now
-        result }
-    ensures first { StartsAnew M.has lost change.now result }
-    ensures kept { StaysFound (drawn seat.new.mark.log) found.old found.new change.now }
-    ensures told { (before : SeatState) → IsSince S.reused before lost change.now seat.old
-        → TellsProgress M.means S.reused tries before seat.new found.old.id change.now result }
+    ensures stands { IsProgress M.has M.means S.reused group.now.shared seat.new call.now.tries found.old.id
+        call.now.change.now result }
+    ensures first { StartsAnew M.has lost call.now.change.now result }
+    ensures kept { StaysFound (drawn seat.new.mark.log) found.old found.new call.now.change.now }
+    ensures told { (before : SeatState) → IsSince S.reused before lost call.now.change.now seat.old
+        → TellsProgress M.means S.reused call.now.tries before seat.new found.old.id call.now.change.now result }
 {
-    for tried in lost..tries.max(1) {
-        match begin_try::<M, S>(group, seat, change, found, tried, tries) {
+    for tried in lost..call.tries.max(1) {
+        match begin_try::<M, S>(group, seat, call, found, tried) {
             Some(progress) => {
                 return progress;
             }
@@ -60,37 +60,35 @@ pub fn ask_from<M: Runs, S: Store<M>>(
 pub fn ran_from<M: Runs, S: Store<M>>(
     group: &SharedGroup<M, S>,
     seat: &mut ClientSeat<M, S>,
-    attempt: Attempt<M>,
-    change: &Change,
+    ended: EndedAttempt<M>,
+    call: &ChangeCall<'_>,
     found: &mut LastId,
-    ran: Ran,
-    tries: u32,
 ) -> Progress<M>
     requires attempt { IsAttempt M.means S.reused group.now.shared seat.old found.old.id
-        change.now attempt }
-    requires few { attempt.lost < max 1 tries }
-    requires asks { MayAsk (drawn seat.old.mark.log) found.old change.now }
-    requires ran { IsRunOf M.means (drawn seat.old.mark.log) attempt.run ran }
+        call.now.change.now ended.attempt }
+    requires few { ended.attempt.lost < max 1 call.now.tries }
+    requires asks { MayAsk (drawn seat.old.mark.log) found.old call.now.change.now }
+    requires ran { IsRunOf M.means (drawn seat.old.mark.log) ended.attempt.run ended.ran }
     ensures seat { IsSameSeat seat.old seat.new }
-    ensures stands { IsProgress M.has M.means S.reused group.now.shared seat.new tries found.old.id
-        change.now result }
-    ensures next { FollowsRun M.has M.means seat.old seat.new attempt ran change.now result }
-    ensures kept { StaysFound (drawn seat.new.mark.log) found.old found.new change.now }
-    ensures told { (before : SeatState) → IsArrivedSince M.means S.reused before attempt.lost change.now
-        attempt.arrival.seen.log seat.old
-        → TellsProgress M.means S.reused tries before seat.new found.old.id change.now result }
+    ensures stands { IsProgress M.has M.means S.reused group.now.shared seat.new call.now.tries found.old.id
+        call.now.change.now result }
+    ensures next { FollowsRun M.has M.means seat.old seat.new ended.attempt ended.ran call.now.change.now result }
+    ensures kept { StaysFound (drawn seat.new.mark.log) found.old found.new call.now.change.now }
+    ensures told { (before : SeatState) → IsArrivedSince M.means S.reused before ended.attempt.lost call.now.change.now
+        ended.attempt.arrival.seen.log seat.old
+        → TellsProgress M.means S.reused call.now.tries before seat.new found.old.id call.now.change.now result }
 {
+    let EndedAttempt { attempt, ran } = ended;
     let Attempt { arrival, run, lost } = attempt;
     let before = *found;
     let request = Request {
-        change,
+        call: *call,
         before,
-        tries,
     };
-    match ran_there::<M, S>(group, seat, &arrival, &request, run, ran) {
+    match ran_there::<M, S>(group, seat, &arrival, &request, EndedRun { run, ran }) {
         TryOutcome::Run(run) => Progress::Run(Attempt { arrival, run, lost }),
         TryOutcome::Ended(made) => Progress::Ended(made),
-        TryOutcome::Lost => ask_from::<M, S>(group, seat, change, found, lost + 1, tries),
+        TryOutcome::Lost => ask_from::<M, S>(group, seat, call, found, lost + 1),
     }
 }
 
@@ -118,7 +116,7 @@ pub fn make_change<M: Mutators, S: Store<M>>(
         (change_asked change.now (map_ok is_made result)) }
     ensures kept { StaysFound (drawn seat.new.mark.log) found.old found.new change.now }
 {
-    match ask_from::<M, S>(group, seat, change, found, 0, tries) {
+    match ask_from::<M, S>(group, seat, &ChangeCall { change, tries }, found, 0) {
         Progress::Ended(made) => made,
         Progress::Run(_) => unreachable!(),
     }

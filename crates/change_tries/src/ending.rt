@@ -25,13 +25,13 @@ ghost use Rattle.change_tries.specs.Runs.{NeedsNoRun, drafted};
 
 use crate::places::At;
 use crate::proposing::{Proposal, Request, kind_at_end};
-use crate::runs::{AskedRun, BoxedRun, Chain, NextStep, Replaying};
+use crate::runs::{AskedRun, BoxedRun, Chain, EndedRun, NextStep, Replaying};
 use change_drafts::{
     Left, Replayed, Run, RunMap, Runs, Setting, add_local, add_replayed, replay_on, tree_if_done,
 };
 use chunk_slots::Slots;
 use commit_graph::StoreNodes;
-use group_history::{Change, Cookie, Means, Mutation, PullOk, Ran, Refusal};
+use group_history::{Change, Means, Mutation, Ran, Refusal};
 use map_tree::Tree;
 use reader_claims::Kind;
 use std::marker::Brand;
@@ -279,23 +279,20 @@ fn left_by_run<'a, M: Means, S: Slots<M>>(
 // The end of a run of the caller's for a mutation that stays pending.
 fn end_rebased<M: Runs, S: Slots<M>>(
     at: &At<'_, M, S>,
-    ticket: &Cookie,
-    pull: &PullOk,
-    last: u64,
     run: AskedRun,
     ran: Ran,
 ) -> Result<NextStep, Refusal>
-    requires run { IsAskedRun M.means (drawn at.now.mark.log) (state_at at.now) last
-        (changed.Pulled ticket.now pull.now) run }
+    requires run { (last : ℕ) × (ticket : Cookied) × (r : Pull)
+        × IsAskedRun M.means (drawn at.now.mark.log) (state_at at.now) last (changed.Pulled ticket r) run }
     requires ran { IsRunOf M.means (drawn at.now.mark.log) run ran }
-    ensures step { IfOk result (MayStep M.has M.means (drawn at.now.mark.log) at.now.commit (state_at at.now) last
-        (changed.Pulled ticket.now pull.now)) }
+    ensures step { (last : ℕ) (ticket : Cookied) (r : Pull)
+        → IsAskedRun M.means (drawn at.now.mark.log) (state_at at.now) last (changed.Pulled ticket r) run
+        → IfOk result (MayStep M.has M.means (drawn at.now.mark.log) at.now.commit (state_at at.now) last
+        (changed.Pulled ticket r)) }
     ensures err { IfErr result (IsStop S.reused) }
     ensures behind { IfOk result (IsBehind M.has M.means (drawn at.now.mark.log) run ran) }
     ensures late { IfErr result (λ e. e ≡ refusal.Stamps → IsLate run.chain.draft.first) }
 {
-    let _ticket = ticket;
-    let _pull = pull;
     let AskedRun {
         chain,
         ran: before,
@@ -321,27 +318,27 @@ fn end_rebased<M: Runs, S: Slots<M>>(
 pub(crate) fn end_run<M: Runs, S: Slots<M>>(
     at: &At<'_, M, S>,
     request: &Request<'_>,
-    run: BoxedRun,
-    ran: Ran,
+    ended: EndedRun,
 ) -> Result<NextStep, Refusal>
     requires run { IsAskedRun M.means (drawn at.now.mark.log) (state_at at.now) request.now.before.id
-        request.now.change.now run }
-    requires ran { IsRunOf M.means (drawn at.now.mark.log) run ran }
+        request.now.call.change.now ended.run }
+    requires ran { IsRunOf M.means (drawn at.now.mark.log) ended.run ended.ran }
     ensures step { IfOk result (MayStep M.has M.means (drawn at.now.mark.log) at.now.commit (state_at at.now)
-        request.now.before.id request.now.change.now) }
-    ensures err { IfErr result (IsUnproposed (IsStop S.reused) (change_asked request.now.change.now)
-        (asked_reply M.means (state_at at.now) request.now.before.id request.now.change.now)) }
-    ensures behind { IfOk result (IsBehind M.has M.means (drawn at.now.mark.log) run ran) }
-    ensures late { IfErr result (λ e. e ≡ refusal.Stamps → IsLate run.chain.draft.first) }
+        request.now.before.id request.now.call.change.now) }
+    ensures err { IfErr result (IsUnproposed (IsStop S.reused) (change_asked request.now.call.change.now)
+        (asked_reply M.means (state_at at.now) request.now.before.id request.now.call.change.now)) }
+    ensures behind { IfOk result (IsBehind M.has M.means (drawn at.now.mark.log) ended.run ended.ran) }
+    ensures late { IfErr result (λ e. e ≡ refusal.Stamps → IsLate ended.run.chain.draft.first) }
 {
-    let Request { change, before, .. } = *request;
+    let Request { call, before } = *request;
+    let EndedRun { run, ran } = ended;
     let run = run.into_run();
-    match change {
+    match call.change {
         Change::Mutated(mutation) => {
             return end_asked(at, mutation, before.id, run, ran);
         }
-        Change::Pulled(ticket, pull) => {
-            return end_rebased(at, ticket, pull, before.id, run, ran);
+        Change::Pulled(_, _) => {
+            return end_rebased(at, run, ran);
         }
         Change::Closed => { unreachable!() }
     }

@@ -26,12 +26,18 @@ use group_history::{Change, Means, Mutation, Ref, Refusal};
 use map_chunks::Draft;
 use reader_claims::Kind;
 
-/// A change that a client asks for, where its last id was found, and how often what is lost is tried.
+/// A call that asks for a change, and how often it tries what is lost to others.
+#[derive(Clone, Copy)]
+pub struct ChangeCall<'a> {
+    pub change: &'a Change,
+    pub tries: u32,
+}
+
+/// What a client asks for by a call, and where its last id was found.
 #[derive(Clone, Copy)]
 pub struct Request<'a> {
-    pub change: &'a Change,
+    pub call: ChangeCall<'a>,
     pub before: LastId,
-    pub tries: u32,
 }
 
 /// Where new commits are drafted: behind the tip of a chain, under stamps from the first one on.

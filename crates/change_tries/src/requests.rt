@@ -12,7 +12,7 @@ ghost use Rattle.change_tries.specs.Runs.{IsFirstStep, MayStep};
 
 use crate::beginning::{begin_mutation, begin_outcome, catch_up};
 use crate::places::At;
-use crate::proposing::{DraftSpot, Request, propose_closing};
+use crate::proposing::{ChangeCall, DraftSpot, Request, propose_closing};
 use crate::runs::NextStep;
 use change_drafts::{Runs, base_at, look_at};
 use chunk_slots::Slots;
@@ -77,16 +77,16 @@ fn begin_open<M: Runs, S: Slots<M>>(
     request: &Request<'_>,
 ) -> Result<NextStep, Refusal>
     requires spot { IsDraftSpot M.means at.now spot.tip spot.first }
-    requires asks { MayAsk (drawn at.now.mark.log) request.now.before request.now.change.now }
+    requires asks { MayAsk (drawn at.now.mark.log) request.now.before request.now.call.change.now }
     ensures step { IfOk result (MayStep M.has M.means (drawn at.now.mark.log) at.now.commit (state_at at.now)
-        request.now.before.id request.now.change.now) }
-    ensures err { IfErr result (IsUnproposed (IsStop S.reused) (change_asked request.now.change.now)
-        (asked_reply M.means (state_at at.now) request.now.before.id request.now.change.now)) }
-    ensures first { IfOk result (IsFirstStep M.has (state_at at.now) request.now.change.now) }
+        request.now.before.id request.now.call.change.now) }
+    ensures err { IfErr result (IsUnproposed (IsStop S.reused) (change_asked request.now.call.change.now)
+        (asked_reply M.means (state_at at.now) request.now.before.id request.now.call.change.now)) }
+    ensures first { IfOk result (IsFirstStep M.has (state_at at.now) request.now.call.change.now) }
     ensures late { IfErr result (λ e. e ≡ refusal.Stamps → IsLate spot.first) }
 {
-    let Request { change, before, .. } = *request;
-    match change {
+    let Request { call, before } = *request;
+    match call.change {
         Change::Mutated(mutation) => {
             return begin_mutation(at, spot, mutation, before);
         }
@@ -105,13 +105,13 @@ fn begin_request<'a, M: Runs, S: Slots<M>>(
     first: u64,
     request: &Request<'_>,
 ) -> Result<NextStep, Refusal>
-    requires asks { MayAsk (drawn at.now.mark.log) request.now.before request.now.change.now }
+    requires asks { MayAsk (drawn at.now.mark.log) request.now.before request.now.call.change.now }
     requires first { first ≡ next_stamp at.now.mark.log }
     ensures step { IfOk result (MayStep M.has M.means (drawn at.now.mark.log) at.now.commit (state_at at.now)
-        request.now.before.id request.now.change.now) }
-    ensures err { IfErr result (IsUnproposed (IsStop S.reused) (change_asked request.now.change.now)
-        (asked_reply M.means (state_at at.now) request.now.before.id request.now.change.now)) }
-    ensures first { IfOk result (IsFirstStep M.has (state_at at.now) request.now.change.now) }
+        request.now.before.id request.now.call.change.now) }
+    ensures err { IfErr result (IsUnproposed (IsStop S.reused) (change_asked request.now.call.change.now)
+        (asked_reply M.means (state_at at.now) request.now.before.id request.now.call.change.now)) }
+    ensures first { IfOk result (IsFirstStep M.has (state_at at.now) request.now.call.change.now) }
     ensures late { IfErr result (λ e. e ≡ refusal.Stamps → IsLate first) }
 {
     let look = look_at::<StoreNodes<'a, M, S>, Brand>(at.nodes(), at.commit)?;
@@ -127,31 +127,29 @@ fn begin_request<'a, M: Runs, S: Slots<M>>(
 pub(crate) fn begin<M: Runs, S: Slots<M>>(
     at: &At<'_, M, S>,
     first: u64,
-    change: &Change,
+    call: &ChangeCall<'_>,
     found: &mut LastId,
 ) -> Result<NextStep, Refusal>
-    requires asks { MayAsk (drawn at.now.mark.log) found.old change.now }
+    requires asks { MayAsk (drawn at.now.mark.log) found.old call.now.change.now }
     requires first { first ≡ next_stamp at.now.mark.log }
     ensures step { IfOk result (MayStep M.has M.means (drawn at.now.mark.log) at.now.commit (state_at at.now)
-        found.old.id change.now) }
-    ensures err { IfErr result (IsUnproposed (IsStop S.reused) (change_asked change.now)
-        (asked_reply M.means (state_at at.now) found.old.id change.now)) }
-    ensures first { IfOk result (IsFirstStep M.has (state_at at.now) change.now) }
+        found.old.id call.now.change.now) }
+    ensures err { IfErr result (IsUnproposed (IsStop S.reused) (change_asked call.now.change.now)
+        (asked_reply M.means (state_at at.now) found.old.id call.now.change.now)) }
+    ensures first { IfOk result (IsFirstStep M.has (state_at at.now) call.now.change.now) }
     ensures late { IfErr result (λ e. e ≡ refusal.Stamps → IsLate first) }
-    ensures kept { StaysFound (drawn at.now.mark.log) found.old found.new change.now }
+    ensures kept { StaysFound (drawn at.now.mark.log) found.old found.new call.now.change.now }
 {
     let LastId { id, .. } = *found;
-    let there = catch_up(at, change, *found)?;
+    let there = catch_up(at, call.change, *found)?;
     let before = LastId { at: there, id };
     *found = before;
-    let tries = at.tries;
     begin_request(
         at,
         first,
         &Request {
-            change,
+            call: *call,
             before,
-            tries,
         },
     )
 }

@@ -13,7 +13,7 @@ use crate::proposing::Proposal;
 use change_drafts::{Key, RunMap, Tip};
 use chunk_slots::Slots;
 use commit_graph::StoreNodes;
-use group_history::{Json, Means, Mutation, Refusal, Scan, Text};
+use group_history::{Json, Means, Mutation, Ran, Refusal, Scan, Text};
 use map_chunks::Draft;
 use map_tree::Tree;
 use std::alloc::{AllocError, Global};
@@ -75,6 +75,13 @@ impl BoxedRun {
     {
         Box::into_inner(self.inner)
     }
+}
+
+/// A run that the caller was asked for, and how it ended.
+#[derive(Drop)]
+pub(crate) struct EndedRun {
+    pub(crate) run: BoxedRun,
+    pub(crate) ran: Ran,
 }
 
 /// Mutations that stay pending, so far as they were run: these, in order, and the map that they left; and those to be

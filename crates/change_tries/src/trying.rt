@@ -25,14 +25,14 @@ use crate::ending::end_run;
 use crate::group::SharedGroup;
 use crate::moving::move_head;
 use crate::places::At;
-use crate::proposing::{Proposal, Request};
+use crate::proposing::{ChangeCall, Proposal, Request};
 use crate::requests::begin;
-use crate::runs::{BoxedRun, NextStep};
+use crate::runs::{BoxedRun, EndedRun, NextStep};
 use crate::steps::{Arrival, pin_and_load_both, unpin};
 use change_drafts::Runs;
 use chunk_slots::Store;
 use commit_graph::{ClientSeat, LastId};
-use group_history::{Change, Means, Ran, Ref, Refusal};
+use group_history::{Means, Ran, Ref, Refusal};
 
 /// How a try of a change ended.
 #[derive(Clone, Copy)]
@@ -53,6 +53,13 @@ pub struct Attempt<M: Means> {
     pub arrival: Arrival<M>,
     pub run: BoxedRun,
     pub lost: u32,
+}
+
+/// A change that is under way, and how the run ended that it asked for.
+#[derive(Drop)]
+pub struct EndedAttempt<M: Means> {
+    pub attempt: Attempt<M>,
+    pub ran: Ran,
 }
 
 /// What a change asks for, or what it came to: the commit where it stands, none where there is nothing to change.
@@ -100,25 +107,25 @@ fn move_there<M: Means, S: Store<M>>(
 ) -> Result<Tried, Refusal>
     requires reading { IsReading S.reused group.now.shared seat.old }
     requires none { S.reused → seat.old.view.taken ≡ [] }
-    requires asks { MayAsk (drawn seat.old.mark.log) request.now.before request.now.change.now }
+    requires asks { MayAsk (drawn seat.old.mark.log) request.now.before request.now.call.change.now }
     requires stands { StandsOn M.means seat.old arrival.now.seen.log arrival.now.base }
     requires proposed { MayPropose M.means (drawn seat.old.mark.log) arrival.now.base
-        (after (record_of arrival.now.seen.log)) request.now.before.id request.now.change.now (Some proposal) }
+        (after (record_of arrival.now.seen.log)) request.now.before.id request.now.call.change.now (Some proposal) }
     ensures seat { IsSameSeat seat.old seat.new }
     ensures none { S.reused → seat.new.view.taken ≡ [] }
     ensures tried { IfOk result (EndsTry M.means seat.old.mark seat.new.mark arrival.now.base
-        (after (record_of arrival.now.seen.log)) request.now.before.id request.now.change.now) }
-    ensures err { IfErr result (IsUnmade (IsStop S.reused) (change_asked request.now.change.now)
-        (asked_reply M.means (after (record_of arrival.now.seen.log)) request.now.before.id request.now.change.now)
-        request.now.tries
-        seat.old.mark seat.new.mark) }
+        (after (record_of arrival.now.seen.log)) request.now.before.id request.now.call.change.now) }
+    ensures err { IfErr result (IsUnmade (IsStop S.reused) (change_asked request.now.call.change.now)
+        (asked_reply M.means (after (record_of arrival.now.seen.log)) request.now.before.id request.now.call.change.now)
+        request.now.call.tries seat.old.mark seat.new.mark) }
     ensures cause { IfErr result (HasCauseAt M.means S.reused (after (record_of arrival.now.seen.log))
-        request.now.before.id request.now.change.now seat.old seat.new) }
+        request.now.before.id request.now.call.change.now seat.old seat.new) }
     ensures frees { S.reused → FreesTry (EndsAt group.now.shared.table.sizes (after (record_of arrival.now.seen.log))
-        request.now.change.now) request.now.change.now seat.old seat.new result }
+        request.now.call.change.now) request.now.call.change.now seat.old seat.new result }
 {
     arrival.seen.legal();
-    match move_head::<M, S>(&group.shared, seat, request.change, proposal, request.tries) {
+    let ChangeCall { change, tries } = request.call;
+    match move_head::<M, S>(&group.shared, seat, change, proposal, tries) {
         Ok(Some(at)) => Ok(Tried::Made(at)),
         Ok(None) => Ok(Tried::Lost),
         Err(e) => Err(e),
@@ -135,25 +142,25 @@ fn make_there<M: Means, S: Store<M>>(
 ) -> Result<Tried, Refusal>
     requires reading { IsReading S.reused group.now.shared seat.old }
     requires none { S.reused → seat.old.view.taken ≡ [] }
-    requires asks { MayAsk (drawn seat.old.mark.log) request.now.before request.now.change.now }
+    requires asks { MayAsk (drawn seat.old.mark.log) request.now.before request.now.call.change.now }
     requires stands { StandsOn M.means seat.old arrival.now.seen.log arrival.now.base }
     requires proposed { IfOk proposed (MayPropose M.means (drawn seat.old.mark.log) arrival.now.base
-        (after (record_of arrival.now.seen.log)) request.now.before.id request.now.change.now) }
-    requires unproposed { IfErr proposed (IsUnproposed (IsStop S.reused) (change_asked request.now.change.now)
-        (asked_reply M.means (after (record_of arrival.now.seen.log)) request.now.before.id request.now.change.now)) }
+        (after (record_of arrival.now.seen.log)) request.now.before.id request.now.call.change.now) }
+    requires unproposed { IfErr proposed (IsUnproposed (IsStop S.reused) (change_asked request.now.call.change.now)
+        (asked_reply M.means (after (record_of arrival.now.seen.log)) request.now.before.id
+        request.now.call.change.now)) }
     requires late { IfErr proposed (λ e. e ≡ refusal.Stamps → IsLate (next_stamp seat.old.mark.log)) }
     ensures seat { IsSameSeat seat.old seat.new }
     ensures none { S.reused → seat.new.view.taken ≡ [] }
     ensures tried { IfOk result (EndsTry M.means seat.old.mark seat.new.mark arrival.now.base
-        (after (record_of arrival.now.seen.log)) request.now.before.id request.now.change.now) }
-    ensures err { IfErr result (IsUnmade (IsStop S.reused) (change_asked request.now.change.now)
-        (asked_reply M.means (after (record_of arrival.now.seen.log)) request.now.before.id request.now.change.now)
-        request.now.tries
-        seat.old.mark seat.new.mark) }
+        (after (record_of arrival.now.seen.log)) request.now.before.id request.now.call.change.now) }
+    ensures err { IfErr result (IsUnmade (IsStop S.reused) (change_asked request.now.call.change.now)
+        (asked_reply M.means (after (record_of arrival.now.seen.log)) request.now.before.id request.now.call.change.now)
+        request.now.call.tries seat.old.mark seat.new.mark) }
     ensures cause { IfErr result (HasCauseAt M.means S.reused (after (record_of arrival.now.seen.log))
-        request.now.before.id request.now.change.now seat.old seat.new) }
+        request.now.before.id request.now.call.change.now seat.old seat.new) }
     ensures frees { S.reused → FreesTry (EndsAt group.now.shared.table.sizes (after (record_of arrival.now.seen.log))
-        request.now.change.now) request.now.change.now seat.old seat.new result }
+        request.now.call.change.now) request.now.call.change.now seat.old seat.new result }
 {
     match proposed {
         Ok(Some(proposal)) => move_there::<M, S>(group, seat, arrival, request, proposal),
@@ -172,21 +179,22 @@ fn end_try<M: Runs, S: Store<M>>(
 ) -> TryOutcome
     requires reading { IsReading S.reused group.now.shared seat.old }
     requires none { S.reused → seat.old.view.taken ≡ [] }
-    requires asks { MayAsk (drawn seat.old.mark.log) request.now.before request.now.change.now }
+    requires asks { MayAsk (drawn seat.old.mark.log) request.now.before request.now.call.change.now }
     requires stands { StandsOn M.means seat.old arrival.now.seen.log arrival.now.base }
     requires proposed { IfOk proposed (MayPropose M.means (drawn seat.old.mark.log) arrival.now.base
-        (after (record_of arrival.now.seen.log)) request.now.before.id request.now.change.now) }
-    requires unproposed { IfErr proposed (IsUnproposed (IsStop S.reused) (change_asked request.now.change.now)
-        (asked_reply M.means (after (record_of arrival.now.seen.log)) request.now.before.id request.now.change.now)) }
+        (after (record_of arrival.now.seen.log)) request.now.before.id request.now.call.change.now) }
+    requires unproposed { IfErr proposed (IsUnproposed (IsStop S.reused) (change_asked request.now.call.change.now)
+        (asked_reply M.means (after (record_of arrival.now.seen.log)) request.now.before.id
+        request.now.call.change.now)) }
     requires late { IfErr proposed (λ e. e ≡ refusal.Stamps → IsLate (next_stamp seat.old.mark.log)) }
     ensures seat { IsSameSeat seat.old seat.new }
     ensures turn { IsTurn M.has M.means S.reused seat.old seat.new (after (record_of arrival.now.seen.log))
-        request.now.before.id request.now.change.now result }
+        request.now.before.id request.now.call.change.now result }
     ensures none { NeedsNone result }
     ensures told { (before : SeatState) (lost : ℕ)
-        → IsArrivedSince M.means S.reused before lost request.now.change.now arrival.now.seen.log seat.old
-        → TellsTurn M.means S.reused request.now.tries before lost seat.new request.now.before.id
-        request.now.change.now result }
+        → IsArrivedSince M.means S.reused before lost request.now.call.change.now arrival.now.seen.log seat.old
+        → TellsTurn M.means S.reused request.now.call.tries before lost seat.new request.now.before.id
+        request.now.call.change.now result }
 {
     let tried = make_there::<M, S>(group, seat, arrival, request, proposed);
     unpin(&group.shared, seat);
@@ -203,21 +211,22 @@ fn step_on<M: Runs, S: Store<M>>(
 ) -> TryOutcome
     requires reading { IsReading S.reused group.now.shared seat.old }
     requires none { S.reused → seat.old.view.taken ≡ [] }
-    requires asks { MayAsk (drawn seat.old.mark.log) request.now.before request.now.change.now }
+    requires asks { MayAsk (drawn seat.old.mark.log) request.now.before request.now.call.change.now }
     requires stands { StandsOn M.means seat.old arrival.now.seen.log arrival.now.base }
     requires step { IfOk step (MayStep M.has M.means (drawn seat.old.mark.log) arrival.now.base
-        (after (record_of arrival.now.seen.log)) request.now.before.id request.now.change.now) }
-    requires unproposed { IfErr step (IsUnproposed (IsStop S.reused) (change_asked request.now.change.now)
-        (asked_reply M.means (after (record_of arrival.now.seen.log)) request.now.before.id request.now.change.now)) }
+        (after (record_of arrival.now.seen.log)) request.now.before.id request.now.call.change.now) }
+    requires unproposed { IfErr step (IsUnproposed (IsStop S.reused) (change_asked request.now.call.change.now)
+        (asked_reply M.means (after (record_of arrival.now.seen.log)) request.now.before.id
+        request.now.call.change.now)) }
     requires late { IfErr step (λ e. e ≡ refusal.Stamps → IsLate (next_stamp seat.old.mark.log)) }
     ensures seat { IsSameSeat seat.old seat.new }
     ensures turn { IsTurn M.has M.means S.reused seat.old seat.new (after (record_of arrival.now.seen.log))
-        request.now.before.id request.now.change.now result }
+        request.now.before.id request.now.call.change.now result }
     ensures passed { IsPassed step result }
     ensures told { (before : SeatState) (lost : ℕ)
-        → IsArrivedSince M.means S.reused before lost request.now.change.now arrival.now.seen.log seat.old
-        → TellsTurn M.means S.reused request.now.tries before lost seat.new request.now.before.id
-        request.now.change.now result }
+        → IsArrivedSince M.means S.reused before lost request.now.call.change.now arrival.now.seen.log seat.old
+        → TellsTurn M.means S.reused request.now.call.tries before lost seat.new request.now.before.id
+        request.now.call.change.now result }
 {
     match step {
         Ok(NextStep::Run(run)) => {
@@ -240,33 +249,31 @@ fn begin_there<M: Runs, S: Store<M>>(
     group: &SharedGroup<M, S>,
     seat: &mut ClientSeat<M, S>,
     arrival: &Arrival<M>,
-    change: &Change,
+    call: &ChangeCall<'_>,
     found: &mut LastId,
-    tries: u32,
 ) -> TryOutcome
     requires reading { IsReading S.reused group.now.shared seat.old }
     requires none { S.reused → seat.old.view.taken ≡ [] }
-    requires asks { MayAsk (drawn seat.old.mark.log) found.old change.now }
+    requires asks { MayAsk (drawn seat.old.mark.log) found.old call.now.change.now }
     requires stands { StandsOn M.means seat.old arrival.now.seen.log arrival.now.base }
     requires first { arrival.now.first ≡ next_stamp seat.old.mark.log }
     ensures seat { IsSameSeat seat.old seat.new }
     ensures turn { IsTurn M.has M.means S.reused seat.old seat.new (after (record_of arrival.now.seen.log))
-        found.old.id change.now result }
-    ensures first { BeginsFirst M.has (after (record_of arrival.now.seen.log)) change.now result }
-    ensures kept { StaysFound (drawn seat.new.mark.log) found.old found.new change.now }
+        found.old.id call.now.change.now result }
+    ensures first { BeginsFirst M.has (after (record_of arrival.now.seen.log)) call.now.change.now result }
+    ensures kept { StaysFound (drawn seat.new.mark.log) found.old found.new call.now.change.now }
     ensures told { (before : SeatState) (lost : ℕ)
-        → IsArrivedSince M.means S.reused before lost change.now arrival.now.seen.log seat.old
-        → TellsTurn M.means S.reused tries before lost seat.new found.old.id change.now result }
+        → IsArrivedSince M.means S.reused before lost call.now.change.now arrival.now.seen.log seat.old
+        → TellsTurn M.means S.reused call.now.tries before lost seat.new found.old.id call.now.change.now result }
 {
     let LastId { id, .. } = *found;
-    let at = At::new(group, seat, &arrival.seen, arrival.base, tries);
-    let step = begin(&at, arrival.first, change, found);
+    let at = At::new(group, seat, &arrival.seen, arrival.base, call.tries);
+    let step = begin(&at, arrival.first, call, found);
     drop(at);
     let before = LastId { at: found.at, id };
     let request = Request {
-        change,
+        call: *call,
         before,
-        tries,
     };
     step_on::<M, S>(group, seat, arrival, &request, step)
 }
@@ -277,27 +284,26 @@ pub(crate) fn ran_there<M: Runs, S: Store<M>>(
     seat: &mut ClientSeat<M, S>,
     arrival: &Arrival<M>,
     request: &Request<'_>,
-    run: BoxedRun,
-    ran: Ran,
+    ended: EndedRun,
 ) -> TryOutcome
     requires reading { IsReading S.reused group.now.shared seat.old }
     requires none { S.reused → seat.old.view.taken ≡ [] }
-    requires asks { MayAsk (drawn seat.old.mark.log) request.now.before request.now.change.now }
+    requires asks { MayAsk (drawn seat.old.mark.log) request.now.before request.now.call.change.now }
     requires stands { StandsOn M.means seat.old arrival.now.seen.log arrival.now.base }
     requires run { IsAskedRun M.means (drawn seat.old.mark.log) (after (record_of arrival.now.seen.log))
-        request.now.before.id request.now.change.now run }
-    requires ran { IsRunOf M.means (drawn seat.old.mark.log) run ran }
+        request.now.before.id request.now.call.change.now ended.run }
+    requires ran { IsRunOf M.means (drawn seat.old.mark.log) ended.run ended.ran }
     ensures seat { IsSameSeat seat.old seat.new }
     ensures turn { IsTurn M.has M.means S.reused seat.old seat.new (after (record_of arrival.now.seen.log))
-        request.now.before.id request.now.change.now result }
-    ensures behind { GoesBehind M.has M.means (drawn seat.old.mark.log) run ran result }
+        request.now.before.id request.now.call.change.now result }
+    ensures behind { GoesBehind M.has M.means (drawn seat.old.mark.log) ended.run ended.ran result }
     ensures told { (before : SeatState) (lost : ℕ)
-        → IsArrivedSince M.means S.reused before lost request.now.change.now arrival.now.seen.log seat.old
-        → TellsTurn M.means S.reused request.now.tries before lost seat.new request.now.before.id
-        request.now.change.now result }
+        → IsArrivedSince M.means S.reused before lost request.now.call.change.now arrival.now.seen.log seat.old
+        → TellsTurn M.means S.reused request.now.call.tries before lost seat.new request.now.before.id
+        request.now.call.change.now result }
 {
-    let at = At::new(group, seat, &arrival.seen, arrival.base, request.tries);
-    let step = end_run(&at, request, run, ran);
+    let at = At::new(group, seat, &arrival.seen, arrival.base, request.call.tries);
+    let step = end_run(&at, request, ended);
     drop(at);
     step_on::<M, S>(group, seat, arrival, request, step)
 }
@@ -306,29 +312,28 @@ pub(crate) fn ran_there<M: Runs, S: Store<M>>(
 pub(crate) fn begin_try<M: Runs, S: Store<M>>(
     group: &SharedGroup<M, S>,
     seat: &mut ClientSeat<M, S>,
-    change: &Change,
+    call: &ChangeCall<'_>,
     found: &mut LastId,
     lost: u32,
-    tries: u32,
 ) -> Option<Progress<M>>
     requires home { IsSeatOf group.now.shared seat.old }
     requires none { S.reused → seat.old.view.taken ≡ [] }
-    requires asks { MayAsk (drawn seat.old.mark.log) found.old change.now }
+    requires asks { MayAsk (drawn seat.old.mark.log) found.old call.now.change.now }
     ensures seat { IsSameSeat seat.old seat.new }
-    ensures going { IsGoing M.has M.means S.reused group.now.shared seat.new lost found.old.id change.now
+    ensures going { IsGoing M.has M.means S.reused group.now.shared seat.new lost found.old.id call.now.change.now
         result }
-    ensures first { StartsIfAny M.has lost change.now result }
-    ensures kept { StaysFound (drawn seat.new.mark.log) found.old found.new change.now }
-    ensures told { (before : SeatState) → IsSince S.reused before lost change.now seat.old
-        → TellsGoing M.means S.reused tries before lost seat.new found.old.id change.now result }
+    ensures first { StartsIfAny M.has lost call.now.change.now result }
+    ensures kept { StaysFound (drawn seat.new.mark.log) found.old found.new call.now.change.now }
+    ensures told { (before : SeatState) → IsSince S.reused before lost call.now.change.now seat.old
+        → TellsGoing M.means S.reused call.now.tries before lost seat.new found.old.id call.now.change.now result }
 {
-    let arrival = match pin_and_load_both(&group.shared, seat, tries) {
+    let arrival = match pin_and_load_both(&group.shared, seat, call.tries) {
         Ok(arrival) => arrival,
         Err(e) => {
             return Some(Progress::Ended(Err(e)));
         }
     };
-    match begin_there::<M, S>(group, seat, &arrival, change, found, tries) {
+    match begin_there::<M, S>(group, seat, &arrival, call, found) {
         TryOutcome::Run(run) => Some(Progress::Run(Attempt { arrival, run, lost })),
         TryOutcome::Ended(made) => Some(Progress::Ended(made)),
         TryOutcome::Lost => None,

@@ -65,29 +65,24 @@ impl<M: Means> Arena<M> {
         seat.count(&self.claims)
     }
 
-    // With the opening's nodes in the two slots.
-    pub(crate) fn with_opening(
+    // An arena without a node yet, over the slots that the table is for.
+    pub(crate) fn new(
         alloc: Global,
         claims: Claims,
         slots: u32,
         mark: &Mark<M>,
-        leaf: u32,
-        commit: u32,
     ) -> Result<Arena<M>, Refusal>
         requires slots { (claims.sizes.slots ≡ slots) × (slots ≤ max_slots) }
-        requires both { (leaf < slots) × (commit < slots) }
-        requires log { (seats : ℕ) × (at : Reference) × (mark.now.log ≡ opening seats at) }
         ensures claims { IfOk result (λ arena. arena.claims ≡ claims) }
         ensures book { IfOk result (λ arena. arena.book ≡ mark.now.book) }
-        ensures err { IfErr result (λ e. (e ≡ refusal.NoMemory) ⊎ (e ≡ refusal.Busy)) }
+        ensures err { IfErr result (λ e. e ≡ refusal.NoMemory) }
     {
         let slots = Blocks::new(alloc, slots, mark)?;
-        let arena = Arena { claims, slots };
-        arena.fill_opening(alloc, mark, leaf, commit)?;
-        Ok(arena)
+        Ok(Arena { claims, slots })
     }
 
-    fn fill_opening(
+    // Places the opening's nodes in the two slots.
+    pub(crate) fn fill_opening(
         &self,
         alloc: Global,
         mark: &Mark<M>,

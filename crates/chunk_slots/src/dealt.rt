@@ -78,7 +78,8 @@ impl Dealt {
             leaf,
             commit,
         } = self;
-        let arena = Arena::with_opening(alloc, claims, slots, mark, leaf, commit)?;
+        let arena = Arena::new(alloc, claims, slots, mark)?;
+        arena.fill_opening(alloc, mark, leaf, commit)?;
         opener.settle_both(&arena.claims, leaf, commit);
         others.push(opener)?;
         Ok((arena, others))

@@ -119,18 +119,37 @@ rest_of : {A : Type 0} (n : ℕ) (xs : List A) → take (length xs - n) (drop n 
 rest_of n xs = take-all (length xs - n) (drop n xs)
     (let e : length (drop n xs) ≡ length xs - n = length-drop n xs in omega (arith, e))
 
--- what the scan has of rows, where it has none up to a place, and each from there on
+paired_from : (ks vs : List Bytes) (i : ℕ)
+    → paired (take (length ks - i) (drop i ks)) (take (length vs - i) (drop i vs)) ≡ paired (drop i ks) (drop i vs)
+paired_from ks vs i =
+    ap (λ w. paired w (take (length vs - i) (drop i vs))) (rest_of i ks) ∙ ap (paired (drop i ks)) (rest_of i vs)
+
+-- what the scan has of rows, where it has none up to a place
+pub scanned_from : (scan : Scan) (ks vs : List Bytes) (i : ℕ) → scanned scan (take i (paired ks vs)) ≡ []
+    → scanned scan (paired (take (length ks - i) (drop i ks)) (take (length vs - i) (drop i vs)))
+    ≡ scanned scan (paired ks vs)
+scanned_from scan ks vs i n =
+    ap (scanned scan) (paired_from ks vs i ∙ paired-drop i ks vs)
+    ∙ sym (ap (scanned scan) (sym (take-append-drop i (paired ks vs)))
+    ∙ filter-append (λ e. is_in scan e.0) (take i (paired ks vs)) (drop i (paired ks vs))
+    ∙ ap (λ w. w ++ scanned scan (drop i (paired ks vs))) n)
+
+-- and where it has each from there on
 pub all_from : (scan : Scan) (ks vs : List Bytes) (i : ℕ) → length vs ≡ length ks
     → scanned scan (take i (paired ks vs)) ≡ [] → AreIn scan (drop i ks)
     → paired (take (length ks - i) (drop i ks)) (take (length vs - i) (drop i vs)) ≡ scanned scan (paired ks vs)
 all_from scan ks vs i l n h =
-    ap (λ w. paired w (take (length vs - i) (drop i vs))) (rest_of i ks)
-    ∙ ap (paired (drop i ks)) (rest_of i vs)
-    ∙ sym (ap (scanned scan) (sym (take-append-drop i (paired ks vs)))
-    ∙ filter-append (λ e. is_in scan e.0) (take i (paired ks vs)) (drop i (paired ks vs))
-    ∙ ap (λ w. w ++ scanned scan (drop i (paired ks vs))) n
-    ∙ ap (scanned scan) (sym (paired-drop i ks vs))
-    ∙ all_in scan (drop i ks) (drop i vs) (length-drops i ks vs l) h)
+    paired_from ks vs i ∙ sym (all_in scan (drop i ks) (drop i vs) (length-drops i ks vs l) h)
+    ∙ ap (scanned scan) (sym (paired_from ks vs i)) ∙ scanned_from scan ks vs i n
+
+-- keys from a place on are in order
+rises-drop : (n : ℕ) (ks : List Bytes) → T (rises ks) → T (rises (drop n ks))
+rises-drop zero ks o = o
+rises-drop (suc n) [] o = o
+rises-drop (suc n) (k ∷ ks) o = rises-drop n ks (second (is_below_all k ks) _ o)
+
+pub rises_from : (ks : List Bytes) (i : ℕ) → T (rises ks) → T (rises (take (length ks - i) (drop i ks)))
+rises_from ks i o = subst (λ w. T (rises w)) (sym (rest_of i ks)) (rises-drop i ks o)
 
 -- a row more of those that are taken one by one
 pub row_more : (ks vs : List Bytes) (i : ℕ) (k v : Bytes) → length vs ≡ length ks → i < length ks → k ≡ get_or ks i k

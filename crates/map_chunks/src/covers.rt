@@ -14,7 +14,7 @@ ghost use Rattle.map_chunks.specs.Covers.{Covers};
 ghost use Rattle.map_chunks.specs.Inside.Covers.{CoversMore};
 ghost use Rattle.map_chunks.specs.Inside.Scanning.{children_rows};
 ghost use Rattle.map_chunks.specs.Places.{Grows, AreAll, IsShown};
-ghost use Rattle.map_chunks.specs.Scanning.{scanned, IsLow};
+ghost use Rattle.map_chunks.specs.Scanning.{scanned};
 ghost use Rattle.map_chunks.specs.Shown.{chunk_rows, IsTree, rows_or};
 
 use crate::chunks::{Chunks, ShowsChunk};
@@ -58,14 +58,21 @@ impl PartialEq for Cover {
     }
 }
 
+// A scan of a chunk, and whether it goes on behind the chunk.
+#[derive(Clone, Copy)]
+struct Asked<'a> {
+    scan: &'a Scan,
+    goes_on: bool,
+}
+
 // Whether the scan goes on behind a child: it has the first key there. Behind the last child it is as behind the chunk.
-fn goes_on_behind(scan: &Scan, firsts: &[Text], place: usize, goes_on: bool) -> bool
+fn goes_on_behind(asked: Asked<'_>, firsts: &[Text], place: usize) -> bool
     requires { place < length firsts.now }
 {
     if place + 1 < firsts.len() {
-        return scan.has(&firsts[place + 1]);
+        return asked.scan.has(&firsts[place + 1]);
     }
-    goes_on
+    asked.goes_on
 }
 
 // Adds a chunk behind others.
@@ -92,7 +99,11 @@ pub fn cover_placed<C: Chunks>(
     ensures stopped { IfErr result (λ s. (s ≡ NoMemory) ⊎ C.stops s) }
 {
     let mut stamps = Vec::new(alloc);
-    add_shown(chunks, at, scan, lowest(scan).as_str(), false, &mut stamps)?;
+    let asked = Asked {
+        scan,
+        goes_on: false,
+    };
+    add_shown(chunks, at, asked, &mut stamps)?;
     Ok(Cover { stamps })
 }
 
@@ -102,24 +113,21 @@ fn add_child<C: Chunks>(
     chunks: &mut C,
     at: Ref,
     first: &Text,
-    scan: &Scan,
-    low: &str,
-    goes_on: bool,
+    asked: Asked<'_>,
     stamps: &mut Vec<u64>,
 ) -> Result<(), Stop>
     requires place { C.places chunks.old at }
     requires tree { IsTree (chunk_rows (C.contents chunks.old) (stamp_of at)) }
-    requires low { IsLow scan.now low.now }
     ensures grown { Grows C.contents C.places chunks.old chunks.new }
-    ensures cover { OnOk result (CoversMore scan.now (C.contents chunks.old) (λ known. chunk_rows known (stamp_of at))
-        stamps.old.items stamps.new.items) }
+    ensures cover { OnOk result (CoversMore asked.entry.scan.now (C.contents chunks.old)
+        (λ known. chunk_rows known (stamp_of at)) stamps.old.items stamps.new.items) }
     ensures stopped { IfErr result (λ s. (s ≡ NoMemory) ⊎ C.stops s) }
 {
-    if goes_on && scan.has(first) {
+    if asked.goes_on && asked.scan.has(first) {
         add(stamps, at)?;
         return Ok(());
     }
-    add_shown(chunks, at, scan, low, goes_on, stamps)
+    add_shown(chunks, at, asked, stamps)
 }
 
 // Adds what covers the scan's rows of a chunk that may have others.
@@ -127,21 +135,18 @@ fn add_child<C: Chunks>(
 fn add_shown<C: Chunks>(
     chunks: &mut C,
     at: Ref,
-    scan: &Scan,
-    low: &str,
-    goes_on: bool,
+    asked: Asked<'_>,
     stamps: &mut Vec<u64>,
 ) -> Result<(), Stop>
     requires place { C.places chunks.old at }
     requires tree { IsTree (chunk_rows (C.contents chunks.old) (stamp_of at)) }
-    requires low { IsLow scan.now low.now }
     ensures grown { Grows C.contents C.places chunks.old chunks.new }
-    ensures cover { OnOk result (CoversMore scan.now (C.contents chunks.old) (λ known. chunk_rows known (stamp_of at))
-        stamps.old.items stamps.new.items) }
+    ensures cover { OnOk result (CoversMore asked.entry.scan.now (C.contents chunks.old)
+        (λ known. chunk_rows known (stamp_of at)) stamps.old.items stamps.new.items) }
     ensures stopped { IfErr result (λ s. (s ≡ NoMemory) ⊎ C.stops s) }
 {
     let held = chunks.show(at)?;
-    let answer = add_chunk(chunks, at, held.chunk(), scan, low, goes_on, stamps);
+    let answer = add_chunk(chunks, at, held.chunk(), asked, stamps);
     chunks.leave(held);
     answer
 }
@@ -151,17 +156,14 @@ fn add_chunk<C: Chunks>(
     chunks: &mut C,
     at: Ref,
     chunk: &Chunk<Ref>,
-    scan: &Scan,
-    low: &str,
-    goes_on: bool,
+    asked: Asked<'_>,
     stamps: &mut Vec<u64>,
 ) -> Result<(), Stop>
     requires shown { IsShown (C.places chunks.old) (C.contents chunks.old) (stamp_of at) chunk.now }
     requires tree { IsTree (chunk_rows (C.contents chunks.old) (stamp_of at)) }
-    requires low { IsLow scan.now low.now }
     ensures grown { Grows C.contents C.places chunks.old chunks.new }
-    ensures cover { OnOk result (CoversMore scan.now (C.contents chunks.old) (λ known. chunk_rows known (stamp_of at))
-        stamps.old.items stamps.new.items) }
+    ensures cover { OnOk result (CoversMore asked.entry.scan.now (C.contents chunks.old)
+        (λ known. chunk_rows known (stamp_of at)) stamps.old.items stamps.new.items) }
     ensures stopped { IfErr result (λ s. (s ≡ NoMemory) ⊎ C.stops s) }
 {
     match chunk {
@@ -174,7 +176,7 @@ fn add_chunk<C: Chunks>(
                 firsts: inner.firsts().as_slice(),
                 children: inner.children(),
             };
-            return add_children(chunks, below, scan, low, goes_on, stamps);
+            return add_children(chunks, below, asked, stamps);
         }
     }
 }
@@ -183,18 +185,15 @@ fn add_chunk<C: Chunks>(
 fn add_children<C: Chunks>(
     chunks: &mut C,
     below: Below<'_>,
-    scan: &Scan,
-    low: &str,
-    goes_on: bool,
+    asked: Asked<'_>,
     stamps: &mut Vec<u64>,
 ) -> Result<(), Stop>
     requires places { AreAll (C.places chunks.old) below.children.now }
     requires order { T (rises below.firsts.now) }
     requires children { length below.children.now ≡ length below.firsts.now }
     requires tree { IsTree (children_rows (C.contents chunks.old) (paired below.firsts.now below.children.now)) }
-    requires low { IsLow scan.now low.now }
     ensures grown { Grows C.contents C.places chunks.old chunks.new }
-    ensures cover { OnOk result (CoversMore scan.now (C.contents chunks.old)
+    ensures cover { OnOk result (CoversMore asked.entry.scan.now (C.contents chunks.old)
         (λ known. children_rows known (paired below.entry.firsts.now below.entry.children.now))
         stamps.old.items stamps.new.items) }
     ensures stopped { IfErr result (λ s. (s ≡ NoMemory) ⊎ C.stops s) }
@@ -202,21 +201,17 @@ fn add_children<C: Chunks>(
     if below.firsts.is_empty() {
         return Ok(());
     }
-    for place in place_of(below.firsts, low)..below.firsts.len() {
+    for place in place_of(below.firsts, lowest(asked.scan).as_str())..below.firsts.len() {
         let first = &below.firsts[place];
-        if is_over(scan, None, first) {
+        if is_over(asked.scan, None, first) {
             return Ok(());
         }
-        let goes_on = goes_on_behind(scan, below.firsts, place, goes_on);
-        add_child(
-            chunks,
-            below.children[place],
-            first,
-            scan,
-            low,
+        let goes_on = goes_on_behind(asked, below.firsts, place);
+        let child = Asked {
+            scan: asked.scan,
             goes_on,
-            stamps,
-        )?;
+        };
+        add_child(chunks, below.children[place], first, child, stamps)?;
     }
     Ok(())
 }

@@ -53,13 +53,12 @@ pub fn make_room<T: Drop>(
     Ok(())
 }
 
-/// Puts an entry before the one at the place, and answers the upper half where there are 17 then.
+/// Puts an entry, under its key, before the one at the place, and answers the upper half where there are 17 then.
 pub fn insert_entry<T: Drop>(
     keys: &mut NodeKeys,
     entries: &mut Vec<T>,
     place: usize,
-    key: Text,
-    entry: T,
+    added: (Text, T),
     spare: SpareChunk<T>,
 ) -> Option<(NodeKeys, Vec<T>)>
     requires pairs { length entries.old.items ≡ length keys.old.texts }
@@ -70,9 +69,10 @@ pub fn insert_entry<T: Drop>(
     requires spare_entries { spare.entries.items ≡ [] }
     requires spare_room { 16 ≤ length keys.old.texts
         → (17 ≤ vec_capacity spare.keys) × (17 ≤ vec_capacity spare.entries) }
-    ensures { Parted (insert (paired keys.old.texts entries.old.items) place (key, entry)) keys.new.texts
+    ensures { Parted (insert (paired keys.old.texts entries.old.items) place added) keys.new.texts
         entries.new.items (option_map (λ u. (u.0.texts, u.1.items)) result) }
 {
+    let (key, entry) = added;
     keys.insert(place, key);
     let _ = entries.insert(place, entry);
     if entries.len() <= MOST {

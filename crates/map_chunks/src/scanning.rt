@@ -118,23 +118,20 @@ fn take_row<S: TakesRows>(
     Ok(lessened(room, 1))
 }
 
-// Takes the scan's rows of a leaf from a place on, each by its key.
+// Takes the scan's rows of a leaf, each by its key.
 fn take_rows<S: TakesRows>(
     keys: &[Text],
     values: &[Json],
-    first: usize,
     scan: &Scan,
     room: Option<u64>,
     sink: &mut S,
 ) -> Result<Option<u64>, AllocError>
     requires order { T (rises keys.now) }
     requires values { length values.now ≡ length keys.now }
-    requires first { first < length keys.now }
-    requires none { scanned scan.now (take first (paired keys.now values.now)) ≡ [] }
     ensures { Gave S.has sink.old sink.new room result (taken scan.now room (paired keys.now values.now)) }
 {
     let mut left = room;
-    for place in first..keys.len() {
+    for place in 0..keys.len() {
         if is_over(scan, left, &keys[place]) {
             return Ok(left);
         }
@@ -169,29 +166,27 @@ fn has_ends(scan: &Scan, keys: &[Text], first: usize) -> bool
     scan.has(&keys[first]) && scan.has(&keys[keys.len() - 1])
 }
 
-/// Takes the scan's rows of a leaf, of whose keys none below `low` is in the scan, and answers the room
-/// that is left. Where that stops the sink has a beginning of these rows.
+/// Takes the scan's rows of a leaf, and answers the room that is left. Where that stops the sink has a
+/// beginning of these rows.
 pub fn scan_rows<S: TakesRows>(
     keys: &[Text],
     values: &[Json],
     scan: &Scan,
-    low: &str,
     room: Option<u64>,
     sink: &mut S,
 ) -> Result<Option<u64>, AllocError>
     requires order { T (rises keys.now) }
     requires values { length values.now ≡ length keys.now }
-    requires low { IsLow scan.now low.now }
     ensures { Gave S.has sink.old sink.new room result (taken scan.now room (paired keys.now values.now)) }
 {
     if keys.is_empty() {
         return Ok(room);
     }
-    let first = place_of(keys, low);
+    let first = place_of(keys, lowest(scan).as_str());
     if has_ends(scan, keys, first) {
         return take_all(&keys[first..], &values[first..], room, sink);
     }
-    take_rows(keys, values, first, scan, room, sink)
+    take_rows(&keys[first..], &values[first..], scan, room, sink)
 }
 
 /// Takes the scan's rows of the chunk, and answers the room that is left. Stops for want of memory, or as
@@ -201,20 +196,18 @@ pub fn scan_placed<C: Chunks, S: TakesRows>(
     chunks: &mut C,
     at: Ref,
     scan: &Scan,
-    low: &str,
     room: Option<u64>,
     sink: &mut S,
 ) -> Result<Option<u64>, Stop>
     requires place { C.places chunks.old at }
     requires tree { IsTree (chunk_rows (C.contents chunks.old) (stamp_of at)) }
-    requires low { IsLow scan.now low.now }
     ensures grown { Grows C.contents C.places chunks.old chunks.new }
     ensures rows { Gave S.has sink.old sink.new room result
         (taken scan.now room (rows_or (chunk_rows (C.contents chunks.old) (stamp_of at)))) }
     ensures stopped { IfErr result (λ s. (s ≡ NoMemory) ⊎ C.stops s) }
 {
     let held = chunks.show(at)?;
-    let answer = scan_chunk(chunks, held.chunk(), scan, low, room, sink);
+    let answer = scan_chunk(chunks, held.chunk(), scan, room, sink);
     chunks.leave(held);
     answer
 }
@@ -224,13 +217,11 @@ fn scan_chunk<C: Chunks, S: TakesRows>(
     chunks: &mut C,
     chunk: &Chunk<Ref>,
     scan: &Scan,
-    low: &str,
     room: Option<u64>,
     sink: &mut S,
 ) -> Result<Option<u64>, Stop>
     requires places { AreAll (C.places chunks.old) (chunk_children chunk.now) }
     requires tree { IsTree (opened_rows (C.contents chunks.old) chunk.now) }
-    requires low { IsLow scan.now low.now }
     ensures grown { Grows C.contents C.places chunks.old chunks.new }
     ensures rows { Gave S.has sink.old sink.new room result
         (taken scan.now room (rows_or (opened_rows (C.contents chunks.old) chunk.now))) }
@@ -238,7 +229,7 @@ fn scan_chunk<C: Chunks, S: TakesRows>(
 {
     match chunk {
         Chunk::Leaf(leaf) => {
-            let left = scan_rows(leaf.keys().as_slice(), leaf.values(), scan, low, room, sink)?;
+            let left = scan_rows(leaf.keys().as_slice(), leaf.values(), scan, room, sink)?;
             return Ok(left);
         }
         Chunk::Inner(inner) => {
@@ -246,7 +237,7 @@ fn scan_chunk<C: Chunks, S: TakesRows>(
                 firsts: inner.firsts().as_slice(),
                 children: inner.children(),
             };
-            return scan_children(chunks, below, scan, low, room, sink);
+            return scan_children(chunks, below, scan, room, sink);
         }
     }
 }
@@ -256,7 +247,6 @@ fn scan_children<C: Chunks, S: TakesRows>(
     chunks: &mut C,
     below: Below<'_>,
     scan: &Scan,
-    low: &str,
     room: Option<u64>,
     sink: &mut S,
 ) -> Result<Option<u64>, Stop>
@@ -264,7 +254,6 @@ fn scan_children<C: Chunks, S: TakesRows>(
     requires order { T (rises below.firsts.now) }
     requires children { length below.children.now ≡ length below.firsts.now }
     requires tree { IsTree (children_rows (C.contents chunks.old) (paired below.firsts.now below.children.now)) }
-    requires low { IsLow scan.now low.now }
     ensures grown { Grows C.contents C.places chunks.old chunks.new }
     ensures rows { Gave S.has sink.old sink.new room result
         (taken scan.now room (rows_or (children_rows (C.contents chunks.old)
@@ -275,11 +264,11 @@ fn scan_children<C: Chunks, S: TakesRows>(
         return Ok(room);
     }
     let mut left = room;
-    for place in place_of(below.firsts, low)..below.firsts.len() {
+    for place in place_of(below.firsts, lowest(scan).as_str())..below.firsts.len() {
         if is_over(scan, left, &below.firsts[place]) {
             return Ok(left);
         }
-        left = scan_placed(chunks, below.children[place], scan, low, left, sink)?;
+        left = scan_placed(chunks, below.children[place], scan, left, sink)?;
     }
     Ok(left)
 }

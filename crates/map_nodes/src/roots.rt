@@ -143,28 +143,27 @@ impl OwnRoot {
         };
         let mut laying = Laying::new(alloc);
         let reached = change_at(chunks, at, &down, &mut laying, change)?;
-        Ok(OwnRoot::settled(alloc, chunks, at, key, reached, laying)?)
+        Ok(OwnRoot::settled(chunks, at, &down, reached, laying)?)
     }
 
     // What a way down from a placed chunk to a key ended in, as a map.
     #[inline(always)]
     fn settled<C: Chunks>(
-        alloc: Global,
         chunks: &C,
         at: Ref,
-        key: &str,
+        down: &Down<'_>,
         reached: Reached,
         laying: Laying,
     ) -> Result<Updated, AllocError>
         requires tree { IsTree (chunk_rows (C.contents chunks.now) (stamp_of at)) }
         requires reached { (u : Updates) × IsReached (C.contents chunks.now) (C.places chunks.now) 1 true
             (stamp_of at) (chunk_depth (C.contents chunks.now) (stamp_of at))
-            (rows_or (chunk_rows (C.contents chunks.now) (stamp_of at))) key.now u reached laying }
+            (rows_or (chunk_rows (C.contents chunks.now) (stamp_of at))) down.now.key.now u reached laying }
         ensures { (u : Updates) → IsReached (C.contents chunks.now) (C.places chunks.now) 1 true (stamp_of at)
             (chunk_depth (C.contents chunks.now) (stamp_of at))
-            (rows_or (chunk_rows (C.contents chunks.now) (stamp_of at))) key.now u reached laying
+            (rows_or (chunk_rows (C.contents chunks.now) (stamp_of at))) down.now.key.now u reached laying
             → IfOk result (IsUpdated (C.contents chunks.now) (C.contents chunks.now) (C.places chunks.now) (stamp_of at)
-            key.now u) }
+            down.now.key.now u) }
     {
         match reached {
             Reached::Same => Ok(Updated::kept(Ran::Done)),
@@ -172,7 +171,7 @@ impl OwnRoot {
             Reached::Laid => Ok(Updated::made(OwnRoot::of_trail(Trail::of(laying)))),
             Reached::Grown(node, half) => {
                 prove!(at.stamp() < STAMPS);
-                let root = topped(alloc, node, half)?;
+                let root = topped(down.alloc, node, half)?;
                 Ok(Updated::made(OwnRoot::new(root)))
             }
         }

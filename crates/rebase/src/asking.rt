@@ -29,7 +29,9 @@ use crate::calls::CallReply;
 use crate::changes::ended_as;
 use crate::client::Client;
 use change_drafts::Runs;
-use change_tries::{At, Attempt, Progress, del, get, put, ran_from, scan};
+use change_tries::{
+    At, Attempt, ChangeCall, EndedAttempt, Progress, del, get, put, ran_from, scan,
+};
 use chunk_slots::{Arena, Slots, Store};
 use commit_graph::LastId;
 use group_history::{Change, Json, Means, Mutation, Ran, Ref, Refusal, Scan, Text};
@@ -277,14 +279,16 @@ impl<M: Runs, S: Store<M>> Asking<M, S> {
             id: client.last,
         };
         client.pinned = false;
+        let call = ChangeCall {
+            change: &change,
+            tries,
+        };
         let progress = ran_from::<M, S>(
             &client.group,
             &mut client.seat,
-            attempt,
-            &change,
+            EndedAttempt { attempt, ran },
+            &call,
             &mut found,
-            ran,
-            tries,
         );
         client.found = found.at;
         client.go_on(change, progress, tries)

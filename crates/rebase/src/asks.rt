@@ -18,7 +18,7 @@ use crate::calls::CallReply;
 use crate::client::Client;
 use crate::tickets::Ticket;
 use change_drafts::Runs;
-use change_tries::ask_from;
+use change_tries::{ChangeCall, ask_from};
 use chunk_slots::Store;
 use commit_graph::LastId;
 use group_history::{Change, Json, Mutation, PullOk, Refusal, Response, Text, VersionKind};
@@ -51,14 +51,11 @@ impl<M: Runs, S: Store<M>> Client<M, S> {
             id: client.last,
         };
         client.pinned = false;
-        let progress = ask_from::<M, S>(
-            &client.group,
-            &mut client.seat,
-            &change,
-            &mut found,
-            0,
+        let call = ChangeCall {
+            change: &change,
             tries,
-        );
+        };
+        let progress = ask_from::<M, S>(&client.group, &mut client.seat, &call, &mut found, 0);
         client.found = found.at;
         client.go_on(change, progress, tries)
     }

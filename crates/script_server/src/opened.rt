@@ -220,7 +220,6 @@ pub(crate) fn serve_phases<
     number: u64,
     input: &mut I,
     out: &mut W,
-    buffers: &mut Buffers,
 ) -> Result<(), ServeEnd>
     requires rules { rules_in (heads_stand heads) ≡ B.rules }
     requires phase { 0 < length (heads_stand heads).said.phases }
@@ -232,8 +231,9 @@ pub(crate) fn serve_phases<
         (place_of (heads_stand heads) number (I.remaining input.old) (W.contents out.old))
         → OnErr result (HasEnded old (W.contents out.new)) }
 {
+    let mut buffers = Buffers::new(rt.alloc());
     let mut opened = Opened::<B>::open(rt.alloc(), heads)?;
-    let result = opened.serve_first(rt, number, input, out, buffers);
+    let result = opened.serve_first(rt, number, input, out, &mut buffers);
     opened.settle();
     result
 }

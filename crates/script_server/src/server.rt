@@ -22,7 +22,7 @@ fn serve<R: AllocGlobal + Wait, I: BufRead, W: Write>(
     let mut heads = Heads::new(rt.alloc());
     match heads.serve(input, out, buffers)? {
         None => Ok(()),
-        Some(first) => serve_phases::<R, I, W, Brand>(rt, heads, first, input, out, buffers),
+        Some(first) => serve_phases::<R, I, W, Brand>(rt, heads, first, input, out),
     }
 }
 

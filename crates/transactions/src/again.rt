@@ -17,7 +17,7 @@ ghost use Rattle.group_history.specs.Spelling.{Contents};
 ghost use Rattle.group_history.specs.declared.mutators.Stop.TheVariants.{NoMemory};
 ghost use Rattle.map_chunks.specs.Inside.Scanning.{CanTake, children_rows};
 ghost use Rattle.map_chunks.specs.Places.{Grows, AreAll, IsShown};
-ghost use Rattle.map_chunks.specs.Scanning.{IsLow, left, taken};
+ghost use Rattle.map_chunks.specs.Scanning.{left, taken};
 ghost use Rattle.map_chunks.specs.Shown.{chunk_rows, IsTree, rows_or};
 ghost use Rattle.transactions.specs.Rescans.{IsRescanned, TakesMore};
 ghost use Rattle.transactions.specs.Spans.{AreSpans, IsMoved, rows_in};
@@ -31,6 +31,13 @@ use map_chunks::search::place_of as child_of;
 use map_chunks::{Chunks, ShowsChunk};
 use std::alloc::{AllocError, Global};
 use std::marker::{Brand, Model};
+
+/// The rows that a scan found before, and spans that are known of them.
+#[derive(Clone, Copy)]
+pub(crate) struct Before<'a> {
+    pub(crate) rows: &'a [(Text, Json)],
+    pub(crate) spans: &'a Spans,
+}
 
 /// What a scan that is made again finds: its rows, if they are others than those of before, and their spans.
 #[derive(Drop)]
@@ -53,11 +60,10 @@ struct Begun {
     from: usize,
 }
 
-/// What is scanned again: no key below the lowest one is in the scan, and these spans are known.
+/// What is scanned again: a scan, of which these spans are known.
 #[derive(Clone, Copy)]
 struct Asked<'a> {
     scan: &'a Scan,
-    low: &'a str,
     known: &'a [Span],
 }
 
@@ -140,8 +146,7 @@ impl<'a, B: PreviousRows> Rescan<'a, B> {
         add_moved(&mut self.spans, kept.all, &kept.span, self.beside.count())
     }
 
-    fn take_leaf(&mut self, leaf: &Leaf, scan: &Scan, low: &str) -> Result<(), AllocError>
-        requires { IsLow scan.now low.now }
+    fn take_leaf(&mut self, leaf: &Leaf, scan: &Scan) -> Result<(), AllocError>
         ensures rows { OnOk result (self.new.rows ≡ self.old.rows ++ taken scan.now self.old.room leaf.now) }
         ensures room { OnOk result (self.new.room
             ≡ left self.old.room (length (taken scan.now self.old.room leaf.now))) }
@@ -151,7 +156,6 @@ impl<'a, B: PreviousRows> Rescan<'a, B> {
             leaf.keys().as_slice(),
             leaf.values(),
             scan,
-            low,
             self.room,
             &mut self.beside,
         )?;
@@ -241,25 +245,24 @@ fn lessened(room: Option<u64>, rows: usize) -> Option<u64>
     }
 }
 
-/// Takes the scan's rows of the chunk beside those of before, of which these spans are known. Stops for want of memory,
-/// or as the store does.
+/// Takes the scan's rows of the chunk beside those of before. Stops for want of memory, or as the store does.
 pub(crate) fn scan_again<C: Chunks>(
     alloc: Global,
     chunks: &mut C,
     at: Ref,
     scan: &Scan,
-    before: &[(Text, Json)],
-    known: &Spans,
+    before: Before<'_>,
 ) -> Result<Rescanned, Stop>
     requires place { C.places chunks.old at }
     requires tree { IsTree (chunk_rows (C.contents chunks.old) (stamp_of at)) }
     ensures grown { Grows C.contents C.places chunks.old chunks.new }
     ensures found { IfOk result (λ found. (all : Contents) → IsPrefix (C.contents chunks.old) all
-        → AreSpans scan.now all before.now known.now → IsRescanned scan.now all before.now
+        → AreSpans scan.now all before.entry.rows.now before.entry.spans.now
+        → IsRescanned scan.now all before.entry.rows.now
         (taken scan.now scan.now.limit (rows_or (chunk_rows (C.contents chunks.old) (stamp_of at)))) found) }
     ensures stopped { IfErr result (λ s. (s ≡ NoMemory) ⊎ C.stops s) }
 {
-    scan_beside::<Brand, C>(alloc, chunks, at, scan, before, known)
+    scan_beside::<Brand, C>(alloc, chunks, at, scan, before)
 }
 
 fn scan_beside<B: PreviousRows, C: Chunks>(
@@ -267,25 +270,24 @@ fn scan_beside<B: PreviousRows, C: Chunks>(
     chunks: &mut C,
     at: Ref,
     scan: &Scan,
-    before: &[(Text, Json)],
-    known: &Spans,
+    before: Before<'_>,
 ) -> Result<Rescanned, Stop>
-    requires before { before.now ≡ B.rows }
+    requires before { before.rows.now ≡ B.rows }
     requires place { C.places chunks.old at }
     requires tree { IsTree (chunk_rows (C.contents chunks.old) (stamp_of at)) }
     ensures grown { Grows C.contents C.places chunks.old chunks.new }
     ensures found { IfOk result (λ found. (all : Contents) → IsPrefix (C.contents chunks.old) all
-        → AreSpans scan.now all before.now known.now → IsRescanned scan.now all before.now
+        → AreSpans scan.now all before.entry.rows.now before.entry.spans.now
+        → IsRescanned scan.now all before.entry.rows.now
         (taken scan.now scan.now.limit (rows_or (chunk_rows (C.contents chunks.old) (stamp_of at)))) found) }
     ensures stopped { IfErr result (λ s. (s ≡ NoMemory) ⊎ C.stops s) }
 {
     let asked = Asked {
         scan,
-        low: lowest(scan).as_str(),
-        known: known.as_slice(),
+        known: before.spans.as_slice(),
     };
-    let mut again = Rescan::<'_, B>::new(alloc, before, scan.limit);
-    take_child(chunks, at, asked.low, asked, &mut again)?;
+    let mut again = Rescan::<'_, B>::new(alloc, before.rows, scan.limit);
+    take_child(chunks, at, lowest(scan).as_str(), asked, &mut again)?;
     Ok(again.into_rescanned(alloc)?)
 }
 
@@ -300,7 +302,6 @@ fn take_child<B: PreviousRows, C: Chunks>(
 ) -> Result<(), Stop>
     requires place { C.places chunks.old at }
     requires tree { IsTree (chunk_rows (C.contents chunks.old) (stamp_of at)) }
-    requires low { IsLow asked.scan.now asked.low.now }
     ensures grown { Grows C.contents C.places chunks.old chunks.new }
     ensures more { OnOk result (TakesMore asked.entry.scan.now B.rows asked.entry.known.now (C.contents chunks.old)
         (λ contents. chunk_rows contents (stamp_of at)) again.old again.new) }
@@ -322,7 +323,6 @@ fn take_shown<B: PreviousRows, C: Chunks>(
 ) -> Result<(), Stop>
     requires place { C.places chunks.old at }
     requires tree { IsTree (chunk_rows (C.contents chunks.old) (stamp_of at)) }
-    requires low { IsLow asked.scan.now asked.low.now }
     ensures grown { Grows C.contents C.places chunks.old chunks.new }
     ensures more { OnOk result (TakesMore asked.entry.scan.now B.rows asked.entry.known.now (C.contents chunks.old)
         (λ contents. chunk_rows contents (stamp_of at)) again.old again.new) }
@@ -347,7 +347,6 @@ fn take_chunk<B: PreviousRows, C: Chunks>(
 ) -> Result<(), Stop>
     requires shown { IsShown (C.places chunks.old) (C.contents chunks.old) (stamp_of at) chunk.now }
     requires tree { IsTree (chunk_rows (C.contents chunks.old) (stamp_of at)) }
-    requires low { IsLow asked.scan.now asked.low.now }
     ensures grown { Grows C.contents C.places chunks.old chunks.new }
     ensures more { OnOk result (TakesMore asked.entry.scan.now B.rows asked.entry.known.now (C.contents chunks.old)
         (λ contents. chunk_rows contents (stamp_of at)) again.old again.new) }
@@ -355,7 +354,7 @@ fn take_chunk<B: PreviousRows, C: Chunks>(
 {
     match chunk {
         Chunk::Leaf(leaf) => {
-            again.take_leaf(leaf, asked.scan, asked.low)?;
+            again.take_leaf(leaf, asked.scan)?;
             return Ok(());
         }
         Chunk::Inner(inner) => {
@@ -386,7 +385,6 @@ fn take_children<B: PreviousRows, C: Chunks>(
     requires order { T (rises below.firsts.now) }
     requires children { length below.children.now ≡ length below.firsts.now }
     requires tree { IsTree (children_rows (C.contents chunks.old) (paired below.firsts.now below.children.now)) }
-    requires low { IsLow asked.scan.now asked.low.now }
     ensures grown { Grows C.contents C.places chunks.old chunks.new }
     ensures more { OnOk result (TakesMore asked.entry.scan.now B.rows asked.entry.known.now (C.contents chunks.old)
         (λ contents. children_rows contents (paired below.entry.firsts.now below.entry.children.now))
@@ -396,7 +394,7 @@ fn take_children<B: PreviousRows, C: Chunks>(
     if below.firsts.is_empty() {
         return Ok(());
     }
-    for place in child_of(below.firsts, asked.low)..below.firsts.len() {
+    for place in child_of(below.firsts, lowest(asked.scan).as_str())..below.firsts.len() {
         let first = &below.firsts[place];
         if is_over(asked.scan, again.room(), first) {
             return Ok(());

@@ -18,7 +18,7 @@ ghost use Rattle.transactions.specs.Reads.{pulled_version};
 ghost use Rattle.transactions.specs.Rescans.{IsRescanned};
 ghost use Rattle.transactions.specs.Spans.{AreSpans};
 
-use crate::again::{Rescanned, scan_again};
+use crate::again::{Before, Rescanned, scan_again};
 use crate::spans::Spans;
 use commit_graph::{Nodes, closed_of, cookie_of, read_root, top_of, walk};
 use group_history::{Cookie, Json, Mutation, Ref, Scan, Stop, Text};
@@ -170,7 +170,11 @@ impl<N: Nodes> ReadTx<N> {
         ensures grown { IsPrefix self.old.contents self.new.contents }
         ensures stopped { IfErr result (λ stop. (stop ≡ NoMemory) ⊎ N.stops stop) }
     {
-        scan_again(self.alloc, &mut self.nodes, self.root, scan, before, known)
+        let before = Before {
+            rows: before,
+            spans: known,
+        };
+        scan_again(self.alloc, &mut self.nodes, self.root, scan, before)
     }
 
     /// Whether no key is there. Takes no memory.

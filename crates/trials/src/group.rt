@@ -539,29 +539,6 @@ where
     play_with(host, part, &mut stage, clients.as_mut_slice(), tally)
 }
 
-/// Plays the lines of one group, where they are played.
-fn play_lines<R: Wait, S: Counted>(
-    host: &Host<'_, R>,
-    trial: Trial<'_>,
-    group: (usize, usize),
-    chosen: Option<usize>,
-    parts: S::Parts,
-    tally: &mut Tally<'_>,
-) -> Result<(), Failed>
-where
-    S::Parts: Copy + Drop,
-{
-    if !is_played(group, chosen) {
-        return Ok(());
-    }
-    let entries = trial.entries(host.rt.alloc(), group, chosen)?;
-    let part = Part {
-        trial,
-        entries: &entries,
-    };
-    play_part::<R, S>(host, part, parts, tally)
-}
-
 /// Plays a trial over a store: whole, or the part alone with the chosen line.
 pub(crate) fn play<R: Wait, S: Counted>(
     host: &Host<'_, R>,
@@ -575,7 +552,14 @@ where
 {
     let groups = trial.parts(host.rt.alloc())?;
     for group in &groups {
-        play_lines::<R, S>(host, trial, *group, chosen, parts, tally)?;
+        if is_played(*group, chosen) {
+            let entries = trial.entries(host.rt.alloc(), *group, chosen)?;
+            let part = Part {
+                trial,
+                entries: &entries,
+            };
+            play_part::<R, S>(host, part, parts, tally)?;
+        }
     }
     Ok(())
 }

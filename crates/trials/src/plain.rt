@@ -313,22 +313,11 @@ fn does<R>(
 ) {
     match (entry.row.deed, entry.asked) {
         (Deed::Part(name, given), _) => say_text(it, name, given, out),
-        (Deed::Call(way), Some(asked)) => calls(it, plain, players, asked, way, out),
+        (Deed::Call(way), Some(asked)) => match players.get_mut(asked.place) {
+            Some(player) => player.tries(it, plain, asked.command, way, out),
+            None => out.say("no client"),
+        },
         _ => out.say("nothing of a plain group"),
-    }
-}
-
-fn calls<R>(
-    it: &Turn<'_, R>,
-    plain: &mut Plain,
-    players: &mut [Player],
-    asked: Asked<'_>,
-    way: Way<'_>,
-    out: &mut Said,
-) {
-    match players.get_mut(asked.place) {
-        Some(player) => player.tries(it, plain, asked.command, way, out),
-        None => out.say("no client"),
     }
 }
 

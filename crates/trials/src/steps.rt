@@ -79,27 +79,6 @@ fn draws(head: &Head<ScriptMutators>, mark: &mut Mark<ScriptMutators>, leaf: Lea
     head.draft(mark, 2, &nodes).is_ok()
 }
 
-// Makes each step of the last seat and mark.
-fn step_all<R, S: Counted>(
-    it: &Turn<'_, R>,
-    store: &S,
-    head: &Head<ScriptMutators>,
-    seat: &mut S::Seat,
-    mark: &mut Mark<ScriptMutators>,
-    leaf: Leaf,
-) -> bool
-    requires home { S.home seat.old ≡ S.serves store.now }
-    requires book { mark.old.book ≡ head.now }
-    requires seat { IsSome mark.old.seat }
-{
-    begins(it.rt, it.is_marked);
-    let at = head.load(mark);
-    let claimed = claims(store, seat, at);
-    let drew = draws(head, mark, leaf);
-    ends(it.rt, it.is_marked);
-    claimed && drew
-}
-
 // A store, its head, and one of its seats and marks.
 fn open_one<S: Counted>(
     alloc: Global,
@@ -126,5 +105,10 @@ where
     let alloc = it.rt.alloc();
     let leaf = empty_leaf(alloc)?;
     let (store, mut seat, head, mut mark) = open_one::<S>(alloc, parts)?;
-    Ok(step_all(it, &store, &head, &mut seat, &mut mark, leaf))
+    begins(it.rt, it.is_marked);
+    let at = head.load(&mut mark);
+    let claimed = claims(&store, &mut seat, at);
+    let drew = draws(&head, &mut mark, leaf);
+    ends(it.rt, it.is_marked);
+    Ok(claimed && drew)
 }

@@ -111,18 +111,7 @@ fn play_rows<R: Wait + Sync>(
     chosen: Option<Chosen<'_>>,
 ) -> Result<(), Failed> {
     let script = script_read(host.rt, name, rows)?;
-    play_script(host, name, stores, rows, &script, chosen)
-}
-
-fn play_script<'x, R: Wait + Sync>(
-    host: &Host<'_, R>,
-    name: &'x str,
-    stores: &str,
-    rows: &'x [Row<'x>],
-    script: &'x Script,
-    chosen: Option<Chosen<'_>>,
-) -> Result<(), Failed> {
-    let commands = commands_of(host.rt.alloc(), script, rows.len())?;
+    let commands = commands_of(host.rt.alloc(), &script, rows.len())?;
     let trial = Trial {
         name,
         header: &script.header,

@@ -17,7 +17,9 @@ ghost use Rattle.map_nodes.specs.Trails.{placed_kids};
 
 use super::copies::{copied_values, placed_children};
 use super::homes::boxed;
-use super::putting::{Half, Put, PutBuffers, finish, insert_row, lower_first, lower_key};
+use super::putting::{
+    ChildSplit, Half, Put, PutBuffers, finish, insert_row, lower_first, lower_key,
+};
 use super::{Body, OwnChild, OwnNode};
 use group_history::{Inner, Json, Leaf, Ref, SearchKey, Text};
 use map_chunks::keys::{NodeKeys, ROOM};
@@ -171,9 +173,12 @@ pub(crate) fn grown_over(
     let ready = ready_over(&mut keys, place, down, &half)?;
     kids[place] = OwnChild::Own(child);
     lower_first(&mut keys, place, ready.lower);
-    let half = finish(
-        &mut keys, &mut kids, place, depth, down.alloc, ready.room, half,
-    );
+    let split = ChildSplit {
+        place,
+        room: ready.room,
+        half,
+    };
+    let half = finish(&mut keys, &mut kids, depth, split);
     let node = OwnNode {
         depth,
         keys,

@@ -21,7 +21,7 @@ use super::OwnNode;
 pub(crate) use below::{PutBuffers, lower_key};
 use group_history::{Json, SearchKey, Stop, Text};
 pub(crate) use leaves::{insert_row, value_found};
-pub(crate) use middles::{finish, lower_first};
+pub(crate) use middles::{ChildSplit, finish, lower_first};
 pub(crate) use roots::topped;
 use std::alloc::{AllocError, Global};
 

@@ -5,12 +5,12 @@ ghost use Rattle.group_history.specs.declared.mutators.Stop.TheVariants.{NoMemor
 ghost use Rattle.map_chunks.specs.Places.{Grows, AreAll, places_of};
 ghost use Rattle.map_nodes.specs.Inside.Freezing.{child_places, kids_places};
 ghost use Rattle.map_chunks.specs.Shown.{shown, IsTree, rows_or};
-ghost use Rattle.map_chunks.specs.Scanning.{taken, Gave, IsLow};
+ghost use Rattle.map_chunks.specs.Scanning.{taken, Gave};
 ghost use Rattle.map_nodes.specs.Inside.Scanning.{kid_shown, kids_shown};
 
 use super::{Body, OwnChild, OwnNode};
 use group_history::{Scan, Stop, Text};
-use map_chunks::scanning::{is_over, scan_placed, scan_rows};
+use map_chunks::scanning::{is_over, lowest, scan_placed, scan_rows};
 use map_chunks::search::place_of;
 use map_chunks::{Chunks, TakesRows};
 
@@ -29,13 +29,11 @@ impl OwnNode {
         &self,
         chunks: &mut C,
         scan: &Scan,
-        low: &str,
         room: Option<u64>,
         sink: &mut S,
     ) -> Result<Option<u64>, Stop>
         requires places { AreAll (C.places chunks.old) (places_of self.now.pieces) }
         requires tree { IsTree (shown (C.contents chunks.old) self.now.pieces) }
-        requires low { IsLow scan.now low.now }
         ensures grown { Grows C.contents C.places chunks.old chunks.new }
         ensures rows { Gave S.has sink.old sink.new room result
             (taken scan.now room (rows_or (shown (C.contents chunks.old) self.now.pieces))) }
@@ -43,7 +41,7 @@ impl OwnNode {
     {
         match &self.body {
             Body::Leaf(values) => {
-                let left = scan_rows(self.keys.as_slice(), values, scan, low, room, sink)?;
+                let left = scan_rows(self.keys.as_slice(), values, scan, room, sink)?;
                 return Ok(left);
             }
             Body::Inner(kids) => {
@@ -51,7 +49,7 @@ impl OwnNode {
                     firsts: self.keys.as_slice(),
                     kids,
                 };
-                return scan_kids(chunks, below, scan, low, room, sink);
+                return scan_kids(chunks, below, scan, room, sink);
             }
         }
     }
@@ -62,7 +60,6 @@ fn scan_kids<C: Chunks, S: TakesRows>(
     chunks: &mut C,
     below: Below<'_>,
     scan: &Scan,
-    low: &str,
     room: Option<u64>,
     sink: &mut S,
 ) -> Result<Option<u64>, Stop>
@@ -70,7 +67,6 @@ fn scan_kids<C: Chunks, S: TakesRows>(
     requires order { T (rises below.firsts.now) }
     requires kids { length below.kids.now ≡ length below.firsts.now }
     requires tree { IsTree (kids_shown (C.contents chunks.old) (paired below.firsts.now below.kids.now)) }
-    requires low { IsLow scan.now low.now }
     ensures grown { Grows C.contents C.places chunks.old chunks.new }
     ensures rows { Gave S.has sink.old sink.new room result
         (taken scan.now room (rows_or (kids_shown (C.contents chunks.old)
@@ -81,11 +77,11 @@ fn scan_kids<C: Chunks, S: TakesRows>(
         return Ok(room);
     }
     let mut left = room;
-    for place in place_of(below.firsts, low)..below.firsts.len() {
+    for place in place_of(below.firsts, lowest(scan).as_str())..below.firsts.len() {
         if is_over(scan, left, &below.firsts[place]) {
             return Ok(left);
         }
-        left = scan_kid(chunks, &below.kids[place], scan, low, left, sink)?;
+        left = scan_kid(chunks, &below.kids[place], scan, left, sink)?;
     }
     Ok(left)
 }
@@ -95,20 +91,18 @@ fn scan_kid<C: Chunks, S: TakesRows>(
     chunks: &mut C,
     kid: &OwnChild,
     scan: &Scan,
-    low: &str,
     room: Option<u64>,
     sink: &mut S,
 ) -> Result<Option<u64>, Stop>
     requires places { AreAll (C.places chunks.old) (child_places kid.now) }
     requires tree { IsTree (kid_shown (C.contents chunks.old) kid.now) }
-    requires low { IsLow scan.now low.now }
     ensures grown { Grows C.contents C.places chunks.old chunks.new }
     ensures rows { Gave S.has sink.old sink.new room result
         (taken scan.now room (rows_or (kid_shown (C.contents chunks.old) kid.now))) }
     ensures stopped { IfErr result (λ s. (s ≡ NoMemory) ⊎ C.stops s) }
 {
     match kid {
-        OwnChild::Placed(at) => scan_placed(chunks, *at, scan, low, room, sink),
-        OwnChild::Own(node) => node.scan(chunks, scan, low, room, sink),
+        OwnChild::Placed(at) => scan_placed(chunks, *at, scan, room, sink),
+        OwnChild::Own(node) => node.scan(chunks, scan, room, sink),
     }
 }

@@ -5,7 +5,7 @@ ghost use Rattle.std.specs.Cmp.Lexicographic.{slice_cmp};
 ghost use Rattle.std.specs.FinMap as finite;
 ghost use Rattle.group_history.specs.declared.mutators.Stop.TheVariants.{NoMemory};
 ghost use Rattle.map_chunks.specs.Places.{Grows, AreAll, places_of};
-ghost use Rattle.map_chunks.specs.Scanning.{taken, Gave, IsLow};
+ghost use Rattle.map_chunks.specs.Scanning.{taken, Gave};
 ghost use Rattle.map_chunks.specs.Seeking.{is_in};
 ghost use Rattle.map_chunks.specs.Shown.{shown, IsTree, rows_or};
 
@@ -49,21 +49,19 @@ impl OwnRoot {
         &self,
         chunks: &mut C,
         scan: &Scan,
-        low: &str,
         room: Option<u64>,
         sink: &mut S,
     ) -> Result<Option<u64>, Stop>
         requires places { AreAll (C.places chunks.old) (places_of self.now.pieces) }
         requires tree { IsTree (shown (C.contents chunks.old) self.now.pieces) }
-        requires low { IsLow scan.now low.now }
         ensures grown { Grows C.contents C.places chunks.old chunks.new }
         ensures rows { Gave S.has sink.old sink.new room result
             (taken scan.now room (rows_or (shown (C.contents chunks.old) self.now.pieces))) }
         ensures stopped { IfErr result (λ s. (s ≡ NoMemory) ⊎ C.stops s) }
     {
         match &self.form {
-            Form::Node(node) => node.scan(chunks, scan, low, room, sink),
-            Form::Trail(trail) => trail.scan(chunks, scan, low, room, sink),
+            Form::Node(node) => node.scan(chunks, scan, room, sink),
+            Form::Trail(trail) => trail.scan(chunks, scan, room, sink),
         }
     }
 }

@@ -9,7 +9,7 @@ ghost use Rattle.map_tree.specs.Trees.{tree_places, tree_map};
 
 use super::{Root, Tree};
 use group_history::{Json, Scan, Stop, Text};
-use map_chunks::scanning::{lowest, scan_placed};
+use map_chunks::scanning::scan_placed;
 use map_chunks::{Chunks, TakesRows};
 use std::alloc::Global;
 
@@ -51,14 +51,13 @@ impl Tree {
             → OnErr result (HasBegun S.has sink.old sink.new (rows_of scan.now m)) }
         ensures stopped { IfErr result (λ s. (s ≡ NoMemory) ⊎ C.stops s) }
     {
-        let low = lowest(scan).as_str();
         match &self.root {
             Root::Placed(at) => {
-                scan_placed(chunks, *at, scan, low, scan.limit, sink)?;
+                scan_placed(chunks, *at, scan, scan.limit, sink)?;
                 return Ok(());
             }
             Root::Own(node) => {
-                node.scan(chunks, scan, low, scan.limit, sink)?;
+                node.scan(chunks, scan, scan.limit, sink)?;
                 return Ok(());
             }
         }

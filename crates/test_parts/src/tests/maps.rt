@@ -36,25 +36,24 @@ pub(super) fn grown(
     let mut tree = Tree::empty(alloc);
     let one = json(alloc, "1")?;
     for before in 0..count {
-        put_number(alloc, chunks, &mut tree, before + 1, digits, &one)?;
+        let key = key_of(alloc, digits, before + 1)?;
+        put_at(alloc, chunks, &mut tree, key.as_str(), &one)?;
     }
     Ok(tree)
 }
 
-/// Puts a value at the key of a number.
-fn put_number(
+/// Puts a value at a key.
+fn put_at(
     alloc: Global,
     chunks: &mut Shelf<'_>,
     tree: &mut Tree,
-    number: u64,
-    digits: usize,
+    key: &str,
     value: &Json,
 ) -> Result<(), Refusal>
     requires { IsSome (tree_map (map content_of chunks.old.nodes.now) tree.old) }
     ensures { OnOk result (IsSome (tree_map (map content_of chunks.new.nodes.now) tree.new)) }
 {
-    let key = key_of(alloc, digits, number)?;
-    tree.put(alloc, chunks, key.as_str(), value)?;
+    tree.put(alloc, chunks, key, value)?;
     Ok(())
 }
 

@@ -232,19 +232,26 @@ fn has<C: Chunks>(chunks: &mut C, root: Ref, key: &str) -> Result<bool, Refusal>
     Ok(Tree::at(root).has(chunks, key)?)
 }
 
+/// The first key of a map, at which key it is changed, and the value that is put there; none where it is removed.
+#[derive(Clone, Copy)]
+struct Edit<'a> {
+    first: &'a str,
+    key: &'a str,
+    value: Option<&'a Json>,
+}
+
 /// How many chunks are new once that is done, and whether the placed map still has its first key.
 fn changed_in<C: Chunks>(
     alloc: Global,
     chunks: &mut C,
     root: Ref,
-    keys: (&str, &str),
-    value: Option<&Json>,
+    edit: Edit<'_>,
 ) -> Result<(u64, bool), Refusal>
     requires known { IsSome (map_at (C.contents chunks.old) (stamp_of root)) }
     requires place { C.places chunks.old root }
 {
-    let fresh = new_after(alloc, chunks, root, keys.1, value)?;
-    let has = has(chunks, root, keys.0)?;
+    let fresh = new_after(alloc, chunks, root, edit.key, edit.value)?;
+    let has = has(chunks, root, edit.first)?;
     Ok((fresh, has))
 }
 
@@ -254,8 +261,7 @@ fn changed_staged<'a, C: Chunks + Copy, K: NamesContents>(
     chunks: C,
     draft: &'a Draft,
     root: Ref,
-    keys: (&str, &str),
-    value: Option<&Json>,
+    edit: Edit<'_>,
 ) -> Result<(u64, bool), Refusal>
     requires known { C.contents chunks ≡ K.known }
     requires places { (at : Reference) → C.places chunks at }
@@ -263,7 +269,7 @@ fn changed_staged<'a, C: Chunks + Copy, K: NamesContents>(
     requires map { IsSome (map_at (with_nodes K.known draft.now.nodes) (stamp_of root)) }
 {
     let mut staged = Staged::<'a, C, K>::new(chunks, draft);
-    changed_in::<Staged<'a, C, K>>(alloc, &mut staged, root, keys, value)
+    changed_in::<Staged<'a, C, K>>(alloc, &mut staged, root, edit)
 }
 
 /// The same of the placed map of the first so many keys.
@@ -279,8 +285,12 @@ fn changed(
     let nodes = VecChunks::new(alloc);
     let placed = placed(alloc, &nodes, digits, count)?;
     let shelf = placed.nodes.shelf();
-    let keys = (first.as_str(), key.as_str());
-    changed_staged::<Shelf<'_>, Brand>(alloc, shelf, &placed.draft, placed.root, keys, value)
+    let edit = Edit {
+        first: first.as_str(),
+        key: key.as_str(),
+        value,
+    };
+    changed_staged::<Shelf<'_>, Brand>(alloc, shelf, &placed.draft, placed.root, edit)
 }
 
 /// The digits of the keys, how many there are, at which one something is changed, the value that is put there, or none

@@ -18,8 +18,8 @@ begin_left-requires-clause-tip g c κs within =
     )
 
 pub returns-clause-step : goal.returns-clause-step
-returns-clause-step g c last =
-    let s = state_at c.args.at.now in let pull = c.args.pull.now in let ticket = c.args.ticket.now in
+returns-clause-step g c last ticket applied =
+    let s = state_at c.args.at.now in let pull = c.args.pull.now in
     let base = c.requires.before in let left = c.in_ok-confirmed.left in
     let start : State = pulled_state (patched s.pulled pull.patch) pull.cookie c.in_ok-confirmed.confirmed in
     let whole : with_more start left.items ≡ after_pull s pull =
@@ -28,12 +28,12 @@ returns-clause-step g c last =
     (c.in_ok-confirmed.ensures.left ∙ ap (λ ids. left_pending ids c.args.pending.now)
     (sym c.in_ok-confirmed.ensures.confirmed)) c.requires.pending c.requires.spot.opened in
     c.begin_left.ensures.step start last ticket pull c.in_ok-chain.ensures.tip refl refl
-    (ended_open s ticket.text pull c.requires.spot.opened ∙ c.requires.applied, c.in_ok-confirmed.ensures.in_range)
+    (ended_open s ticket.text pull c.requires.spot.opened ∙ applied, c.in_ok-confirmed.ensures.in_range)
     whole
 
 pub returns-clause-first : goal.returns-clause-first
-returns-clause-first g c =
-    let s = state_at c.args.at.now in let pull = c.args.pull.now in let ticket = c.args.ticket.now in
+returns-clause-first g c ticket =
+    let s = state_at c.args.at.now in let pull = c.args.pull.now in
     let base = c.requires.before in let left = c.in_ok-confirmed.left in
     let start : State = pulled_state (patched s.pulled pull.patch) pull.cookie c.in_ok-confirmed.confirmed in
     let whole : with_more start left.items ≡ after_pull s pull =

@@ -11,8 +11,8 @@ abbrev pub invariant-loop-tried : goal.invariant-loop-tried
 invariant-loop-tried g l = record {
   seat : IsSameSeat l.initial.seat l.seat;
   none : g.S.Slots.reused → l.seat.view.taken ≡ [];
-  kept : StaysFound (drawn l.seat.mark.log) l.initial.found l.found l.change;
-  since : (before : SeatState) → IsSince g.S.Slots.reused before l.lost l.change l.initial.seat
-      → IsSince g.S.Slots.reused before l.tried l.change l.seat;
+  kept : StaysFound (drawn l.seat.mark.log) l.initial.found l.found l.call.change.now;
+  since : (before : SeatState) → IsSince g.S.Slots.reused before l.lost l.call.change.now l.initial.seat
+      → IsSince g.S.Slots.reused before l.tried l.call.change.now l.seat;
   idle : 0 < l.tried → g.S.Slots.reused → IsIdle l.seat.view;
 }

@@ -14,8 +14,8 @@ use Rattle.change_tries.proofs.ending.end_rebased.Goals as goal
 pub go_on-requires-clause-leads : goal.go_on-requires-clause-leads
 go_on-requires-clause-leads g c κs within =
     let means = g.M.Means.means in let cs = drawn c.args.at.now.mark.log in let run = c.args.run in
-    let x = run.mutation in let start = run_start cs run in let r = c.requires.run in
-    let after = after_pull (state_at c.args.at.now) c.args.pull.now in let rest = reverse run.behind.items in (
+    let x = run.mutation in let start = run_start cs run in let (last, ticket, pull, r) = c.requires.run in
+    let after = after_pull (state_at c.args.at.now) pull in let rest = reverse run.behind.items in (
       after,
       replayed means start (x ∷ []),
       subst (λ (ys : List Mutation). Leads means cs after run.chain ys rest (replayed means start (x ∷ [])))
@@ -26,11 +26,11 @@ go_on-requires-clause-leads g c κs within =
     )
 
 pub returns-clause-step : goal.returns-clause-step
-returns-clause-step g c =
+returns-clause-step g c last ticket pull r =
     let means = g.M.Means.means in let cs = drawn c.args.at.now.mark.log in let run = c.args.run in
-    let x = run.mutation in let start = run_start cs run in let r = c.requires.run in
-    let after = after_pull (state_at c.args.at.now) c.args.pull.now in let rest = reverse run.behind.items in
-    c.go_on.ensures.step c.args.last c.args.ticket.now c.args.pull.now (replayed means start (x ∷ [])) r.judged.0
+    let x = run.mutation in let start = run_start cs run in
+    let after = after_pull (state_at c.args.at.now) pull in let rest = reverse run.behind.items in
+    c.go_on.ensures.step last ticket pull (replayed means start (x ∷ [])) r.judged.0
     (subst (λ (ys : List Mutation). Leads means cs after run.chain ys rest (replayed means start (x ∷ [])))
     (sym c.in_ok-push.ensures.items) (leads_on means cs after run.chain run.ran.items (x ∷ []) (x ∷ rest) rest start
     refl r.leads)) r.judged.1 (c.in_ok-tree.ensures.left (meaning_of means x start) c.requires.ran)

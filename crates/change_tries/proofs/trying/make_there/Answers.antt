@@ -20,7 +20,7 @@ returns-in-Err-clause-frees g c r = frees_as _ _ 0 1 c.args.seat.now c.args.seat
 
 pub returns-in-Err-clause-cause : goal.returns-in-Err-clause-cause
 returns-in-Err-clause-cause g c =
-    let means = g.M.Means.means in let seat = c.args.seat.now in let change = c.args.request.now.change.now in
+    let means = g.M.Means.means in let seat = c.args.seat.now in let change = c.args.request.now.call.change.now in
     let last = c.args.request.now.before.id in let s = after (record_of c.args.arrival.now.seen.log) in
     cause_unproposed means g.S.Slots.reused s last change seat seat c.in-Err.e
     (subst (λ r. IfErr r (IsUnproposed (IsStop g.S.Slots.reused) (change_asked change)

@@ -17,7 +17,7 @@ use Rattle.change_tries.proofs.trying.move_there.Goals as goal
 pub move_head-requires-clause-leads : goal.move_head-requires-clause-leads
 move_head-requires-clause-leads g c κs within =
     let means = g.M.Means.means in let mark = c.args.seat.now.mark in let p = c.args.proposal in
-    let change = c.args.request.now.change.now in let s = after (record_of c.args.arrival.now.seen.log) in
+    let change = c.args.request.now.call.change.now in let s = after (record_of c.args.arrival.now.seen.log) in
     let leads = c.requires.proposed.1 in
     record {
       log = c.args.arrival.now.seen.log;
@@ -30,7 +30,7 @@ move_head-requires-clause-leads g c κs within =
 pub returns-in-Ok-Some-clause-tried : goal.returns-in-Ok-Some-clause-tried
 returns-in-Ok-Some-clause-tried g c =
     let means = g.M.Means.means in let old = c.args.seat.now.mark in let new = c.move_head.new.seat.mark in
-    let p = c.args.proposal in let change = c.args.request.now.change.now in
+    let p = c.args.proposal in let change = c.args.request.now.call.change.now in
     let before = c.args.request.now.before in let log = c.args.arrival.now.seen.log in let s = after (record_of log) in
     let proposed = c.requires.proposed in
     let base = subst (λ (b : Ref). IsBase means old b s) (sym proposed.1.begins) c.requires.stands.spelled in
@@ -47,7 +47,7 @@ returns-in-Ok-Some-clause-tried g c =
 
 pub returns-in-Ok-Some-clause-frees : goal.returns-in-Ok-Some-clause-frees
 returns-in-Ok-Some-clause-frees g c r =
-    let old = c.args.seat.now in let new = c.move_head.new.seat in let change = c.args.request.now.change.now in
+    let old = c.args.seat.now in let new = c.move_head.new.seat in let change = c.args.request.now.call.change.now in
     let sizes = c.args.group.now.shared.table.sizes in let s = after (record_of c.args.arrival.now.seen.log) in
     let may = λ (end : ℕ). end ≡ kind_end sizes c.args.proposal.kind in
     frees_as may (EndsAt sizes s change) 0 0 old new (Some change) (omega arith)
@@ -57,7 +57,7 @@ returns-in-Ok-Some-clause-frees g c r =
 
 pub returns-in-Ok-None-clause-frees : goal.returns-in-Ok-None-clause-frees
 returns-in-Ok-None-clause-frees g c r =
-    let old = c.args.seat.now in let new = c.move_head.new.seat in let change = c.args.request.now.change.now in
+    let old = c.args.seat.now in let new = c.move_head.new.seat in let change = c.args.request.now.call.change.now in
     let sizes = c.args.group.now.shared.table.sizes in let s = after (record_of c.args.arrival.now.seen.log) in
     let may = λ (end : ℕ). end ≡ kind_end sizes c.args.proposal.kind in
     frees_as may (EndsAt sizes s change) 1 1 old new None (omega arith)
@@ -67,7 +67,7 @@ returns-in-Ok-None-clause-frees g c r =
 
 pub returns-in-Err-clause-frees : goal.returns-in-Err-clause-frees
 returns-in-Err-clause-frees g c r =
-    let old = c.args.seat.now in let new = c.move_head.new.seat in let change = c.args.request.now.change.now in
+    let old = c.args.seat.now in let new = c.move_head.new.seat in let change = c.args.request.now.call.change.now in
     let sizes = c.args.group.now.shared.table.sizes in let s = after (record_of c.args.arrival.now.seen.log) in
     frees_as (λ (end : ℕ). end ≡ kind_end sizes c.args.proposal.kind) (EndsAt sizes s change) 1 1 old new None
     (omega arith) (λ end is. is ∙ ap (kind_end sizes) c.requires.proposed.1.kind) (c.in-Err.ensures.frees r)
@@ -75,7 +75,7 @@ returns-in-Err-clause-frees g c r =
 pub returns-in-Err-clause-cause : goal.returns-in-Err-clause-cause
 returns-in-Err-clause-cause g c =
     let means = g.M.Means.means in let seat = c.args.seat.now in let new = c.move_head.new.seat in
-    let change = c.args.request.now.change.now in let s = after (record_of c.args.arrival.now.seen.log) in
+    let change = c.args.request.now.call.change.now in let s = after (record_of c.args.arrival.now.seen.log) in
     let e = c.in-Err.ensures in let (asked, leads) = c.requires.proposed in
     record {
       asked = λ full. asked;

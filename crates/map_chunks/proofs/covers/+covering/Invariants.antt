@@ -29,6 +29,7 @@ invariant-add_children-loop-place g l =
       grown : Grows g.C.Chunks.contents g.C.Chunks.places l.fn.chunks l.chunks;
       cover : (before : Contents) → IsPrefix before (g.C.Chunks.contents l.fn.chunks)
           → IsTree (children_rows before (paired l.below.firsts.now l.below.children.now))
-          → Took (Covers l.scan before) l.fn.stamps.items l.stamps.items None None (taken l.scan None
+          → Took (Covers l.asked.scan.now before) l.fn.stamps.items l.stamps.items None None (taken l.asked.scan.now
+          None
           (first_rows (ref_rows before) (paired l.below.firsts.now l.below.children.now) l.place));
     }

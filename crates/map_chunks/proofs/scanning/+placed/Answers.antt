@@ -10,6 +10,7 @@ use Rattle.group_history.specs.Naming.{chunk_children}
 use Rattle.map_chunks.specs.Places.{AreAll}
 use Rattle.map_chunks.proofs.KeptLemmas.{grows_on}
 use Rattle.map_chunks.specs.Scanning.{Took, Gave, taken, is_over}
+use Rattle.map_chunks.specs.Search.{IsPlace}
 use Rattle.map_chunks.specs.Sinks.{HasBegun}
 use Rattle.map_chunks.specs.Inside.Scanning.{opened_rows, children_rows}
 use Rattle.map_chunks.specs.Shown.{IsTree, rows_or, chunk_rows}
@@ -24,24 +25,25 @@ use Rattle.map_chunks.proofs.scanning.+placed.Goals as goal
 pub scan_children-loop-place-init : goal.scan_children-loop-place-init
 scan_children-loop-place-init g t c =
     let p = g.C.Chunks.contents c.args.chunks.now in
-    let r = c.requires.1.1.1.1.1.1 in
-    let n = refs_known p c.args.below.firsts.now c.args.below.children.now r.1.1.0 in
+    let n = refs_known p c.args.below.firsts.now c.args.below.children.now c.requires.tree in
     record {
       grown = (([], append-nil p), λ at h. h);
       rows = pairs_begun (ref_rows p) c.args.below.firsts.now c.args.below.children.now c.place_of-place.result n.rows
-          c.args.scan.now c.args.low.now g.S.TakesRows.has c.args.sink.now c.args.room r.1.0 n.is n.order r.1.1.1
-          c.place_of-place.ensures;
+          c.args.scan.now c.lowest.result.now g.S.TakesRows.has c.args.sink.now c.args.room c.requires.children n.is
+          n.order c.lowest.ensures
+          (subst (λ w. IsPlace w c.args.below.firsts.now c.place_of-place.result) c.as_str.ensures
+          c.place_of-place.ensures);
     }
 
 pub scan_children-returns-then-is_over-clause-rows : goal.scan_children-returns-then-is_over-clause-rows
 scan_children-returns-then-is_over-clause-rows g t c =
     let p = g.C.Chunks.contents c.args.chunks.now in
-    let r = c.requires.1.1.1.1.1.1 in
-    let n = refs_known p c.args.below.firsts.now c.args.below.children.now r.1.1.0 in
+    let n = refs_known p c.args.below.firsts.now c.args.below.children.now c.requires.tree in
     subst (λ w. Took g.S.TakesRows.has c.args.sink.now c.loop-place.sink c.args.room c.loop-place.left
     (taken c.args.scan.now c.args.room (rows_or w))) (sym n.is)
     (pairs_over (ref_rows p) c.args.below.firsts.now c.args.below.children.now c.loop-place.place n.rows c.args.scan.now
-    g.S.TakesRows.has c.args.sink.now c.loop-place.sink c.args.room c.loop-place.left c.index-below-place.result r.1.0
+    g.S.TakesRows.has c.args.sink.now c.loop-place.sink c.args.room c.loop-place.left c.index-below-place.result
+    c.requires.children
     n.is n.order c.loop-place-test.true c.index-below-place.is c.loop-place.invariant.rows
     (subst (λ w. is_over c.args.scan.now c.loop-place.left w ≡ true) (sym c.index-below-place.is)
     (sym c.is_over.ensures ∙ c.if-is_over.true)))
@@ -60,17 +62,16 @@ scan_children-returns-clause-grown g t c = c.loop-place.invariant.grown
 pub scan_children-scan_placed-requires : goal.scan_children-scan_placed-requires
 scan_children-scan_placed-requires g t c κs ws =
     let p = g.C.Chunks.contents c.args.chunks.now in
-    let r = c.requires.1.1.1.1.1.1 in
-    let n = refs_known p c.args.below.firsts.now c.args.below.children.now r.1.1.0 in
+    let n = refs_known p c.args.below.firsts.now c.args.below.children.now c.requires.tree in
     let at = slice_index_or c.args.below.children.now c.loop-place.place (record { bits = 0 }) in
     let u = ref_turn p (g.C.Chunks.contents c.loop-place.chunks) c.args.below.firsts.now c.args.below.children.now
-    c.loop-place.place at c.loop-place.invariant.grown.0 r.1.0 n c.loop-place-test.true
+    c.loop-place.place at c.loop-place.invariant.grown.0 c.requires.children n c.loop-place-test.true
     (got_any c.args.below.children.now c.loop-place.place (record { bits = 0 }) at
-    (omega (arith, r.1.0, c.loop-place-test.true))) in
+    (omega (arith, c.requires.children, c.loop-place-test.true))) in
     let place = c.loop-place.invariant.grown.1 at
-    (c.requires.1.1.1.1.1.0 at (Contains-get_or c.args.below.children.now c.loop-place.place (record { bits = 0 })
-    (omega (arith, r.1.0, c.loop-place-test.true)))) in (
-      omega (arith, u.low, c.requires.1.0),
+    (c.requires.places at (Contains-get_or c.args.below.children.now c.loop-place.place (record { bits = 0 })
+    (omega (arith, c.requires.children, c.loop-place-test.true)))) in (
+      omega (arith, u.low, c.decreases),
       (
         ws.0,
         (
@@ -79,10 +80,7 @@ scan_children-scan_placed-requires g t c κs ws =
             ws.1.1,
             (
               place,
-              (
-                u.tree,
-                r.1.1.1,
-              ),
+              u.tree,
             ),
           ),
         ),
@@ -92,13 +90,12 @@ scan_children-scan_placed-requires g t c κs ws =
 pub scan_children-loop-place-preserved : goal.scan_children-loop-place-preserved
 scan_children-loop-place-preserved g t c =
     let p = g.C.Chunks.contents c.args.chunks.now in
-    let r = c.requires.1.1.1.1.1.1 in
-    let n = refs_known p c.args.below.firsts.now c.args.below.children.now r.1.1.0 in
+    let n = refs_known p c.args.below.firsts.now c.args.below.children.now c.requires.tree in
     let at = slice_index_or c.args.below.children.now c.loop-place.place (record { bits = 0 }) in
     let u = ref_turn p (g.C.Chunks.contents c.loop-place.chunks) c.args.below.firsts.now c.args.below.children.now
-    c.loop-place.place at c.loop-place.invariant.grown.0 r.1.0 n c.loop-place-test.true
+    c.loop-place.place at c.loop-place.invariant.grown.0 c.requires.children n c.loop-place-test.true
     (got_any c.args.below.children.now c.loop-place.place (record { bits = 0 }) at
-    (omega (arith, r.1.0, c.loop-place-test.true))) in
+    (omega (arith, c.requires.children, c.loop-place-test.true))) in
     record {
       grown = grows_on g.C.Chunks.contents g.C.Chunks.places c.args.chunks.now c.loop-place.chunks
           c.scan_placed.new.chunks c.loop-place.invariant.grown c.scan_placed.ensures.grown;
@@ -113,13 +110,12 @@ scan_children-loop-place-preserved g t c =
 pub scan_children-returns-in_err-left-clause-rows : goal.scan_children-returns-in_err-left-clause-rows
 scan_children-returns-in_err-left-clause-rows g t c =
     let p = g.C.Chunks.contents c.args.chunks.now in
-    let r = c.requires.1.1.1.1.1.1 in
-    let n = refs_known p c.args.below.firsts.now c.args.below.children.now r.1.1.0 in
+    let n = refs_known p c.args.below.firsts.now c.args.below.children.now c.requires.tree in
     let at = slice_index_or c.args.below.children.now c.loop-place.place (record { bits = 0 }) in
     let u = ref_turn p (g.C.Chunks.contents c.loop-place.chunks) c.args.below.firsts.now c.args.below.children.now
-    c.loop-place.place at c.loop-place.invariant.grown.0 r.1.0 n c.loop-place-test.true
+    c.loop-place.place at c.loop-place.invariant.grown.0 c.requires.children n c.loop-place-test.true
     (got_any c.args.below.children.now c.loop-place.place (record { bits = 0 }) at
-    (omega (arith, r.1.0, c.loop-place-test.true))) in
+    (omega (arith, c.requires.children, c.loop-place-test.true))) in
     gave_begun g.S.TakesRows.has c.args.sink.now c.scan_placed.new.sink c.args.room c.from_residual.result _ _
     c.from_residual.ensures.1
     (subst (λ w. HasBegun g.S.TakesRows.has c.args.sink.now c.scan_placed.new.sink
@@ -133,11 +129,11 @@ scan_children-returns-in_err-left-clause-rows g t c =
 pub scan_children-returns-clause-rows : goal.scan_children-returns-clause-rows
 scan_children-returns-clause-rows g t c =
     let p = g.C.Chunks.contents c.args.chunks.now in
-    let r = c.requires.1.1.1.1.1.1 in
-    let n = refs_known p c.args.below.firsts.now c.args.below.children.now r.1.1.0 in
+    let n = refs_known p c.args.below.firsts.now c.args.below.children.now c.requires.tree in
     subst (λ w. Took g.S.TakesRows.has c.args.sink.now c.loop-place.sink c.args.room c.loop-place.left
     (taken c.args.scan.now c.args.room w))
-    (pairs_all (ref_rows p) c.args.below.firsts.now c.args.below.children.now c.loop-place.place n.rows r.1.0 n.is
+    (pairs_all (ref_rows p) c.args.below.firsts.now c.args.below.children.now c.loop-place.place n.rows
+    c.requires.children n.is
     (omega (arith, c.place_of-place.ensures.0)) ∙ ap rows_or (sym n.is)) c.loop-place.invariant.rows
 
 pub scan_chunk-returns-in-Leaf-clause-rows : goal.scan_chunk-returns-in-Leaf-clause-rows
@@ -162,7 +158,6 @@ scan_chunk-returns-in_err-left-in-Leaf-clause-rows g t c =
 pub scan_chunk-scan_children-requires : goal.scan_chunk-scan_children-requires
 scan_chunk-scan_children-requires g t c κs ws =
     let p = g.C.Chunks.contents c.args.chunks.now in
-    let r = c.requires.1.1.1.1.1.1 in
     let kids = c.in-Inner.inner in
     let keys : c.as_slice-in-Inner.result.now
     ≡ keys_of kids = c.as_slice-in-Inner.ensures.keys ∙ c.deref-in-Inner.ensures ∙ c.firsts.ensures.keys in
@@ -172,7 +167,7 @@ scan_chunk-scan_children-requires g t c κs ws =
     (λ w. paired (keys_of kids) w) children ∙ paired-parts kids in
     let tops : top (paired c.as_slice-in-Inner.result.now c.children.result.now)
     ≡ chunk_top c.args.chunk.now = ap top pairs ∙ ap chunk_top (sym c.in-Inner.is) in (
-      omega (arith, tops, c.requires.1.0),
+      omega (arith, tops, c.decreases),
       (
         ws.0,
         (
@@ -182,16 +177,13 @@ scan_chunk-scan_children-requires g t c κs ws =
             (
               subst (AreAll (g.C.Chunks.places c.args.chunks.now)) (sym children)
                   (subst (λ (ch : Chunk Ref). AreAll (g.C.Chunks.places c.args.chunks.now) (chunk_children ch))
-                  c.in-Inner.is c.requires.1.1.1.1.1.0),
+                  c.in-Inner.is c.requires.places),
               (
                 c.as_slice-in-Inner.ensures.order.1,
                 (
                   omega (arith, ap length keys, ap length children, length-keys_of kids, length-values_of kids),
-                  (
-                    subst (λ w. IsTree (children_rows p w)) (sym pairs)
-                        (subst (λ (ch : Chunk Ref). IsTree (opened_rows p ch)) c.in-Inner.is r.0),
-                    r.1,
-                  ),
+                  subst (λ w. IsTree (children_rows p w)) (sym pairs)
+                      (subst (λ (ch : Chunk Ref). IsTree (opened_rows p ch)) c.in-Inner.is c.requires.tree),
                 ),
               ),
             ),
@@ -219,12 +211,11 @@ pub scan_placed-scan_chunk-answer-requires : goal.scan_placed-scan_chunk-answer-
 scan_placed-scan_chunk-answer-requires g t c κs ws =
     let p = g.C.Chunks.contents c.args.chunks.now in
     let q = g.C.Chunks.contents c.show.new.self in
-    let r = c.requires.1.1.1.1.1.1 in
-    let n = known (chunk_rows p (stamp_of c.args.at)) r.0 in
+    let n = known (chunk_rows p (stamp_of c.args.at)) c.requires.tree in
     let o = opened_is q (stamp_of c.args.at) n.rows _
     (chunk_rows-kept p q (stamp_of c.args.at) n.rows c.show.ensures.grown.0 n.is) c.in_ok-held.ensures.content in
     let tops = ap chunk_top c.chunk.ensures in (
-      omega (arith, tops, o.low, c.requires.1.0),
+      omega (arith, tops, o.low, c.decreases),
       (
         ws.0,
         (
@@ -234,11 +225,8 @@ scan_placed-scan_chunk-answer-requires g t c κs ws =
             (
               subst (λ (ch : Chunk Ref). AreAll (g.C.Chunks.places c.show.new.self) (chunk_children ch))
                   (sym c.chunk.ensures) c.in_ok-held.ensures.children,
-              (
-                subst (λ (ch : Chunk Ref). IsTree (opened_rows q ch)) (sym c.chunk.ensures)
-                    (tree_of (opened_rows q _) n.rows o.rows_are n.order),
-                r.1,
-              ),
+              subst (λ (ch : Chunk Ref). IsTree (opened_rows q ch)) (sym c.chunk.ensures)
+                  (tree_of (opened_rows q _) n.rows o.rows_are n.order),
             ),
           ),
         ),
@@ -249,8 +237,7 @@ pub scan_placed-returns-clause-rows : goal.scan_placed-returns-clause-rows
 scan_placed-returns-clause-rows g t c =
     let p = g.C.Chunks.contents c.args.chunks.now in
     let q = g.C.Chunks.contents c.show.new.self in
-    let r = c.requires.1.1.1.1.1.1 in
-    let n = known (chunk_rows p (stamp_of c.args.at)) r.0 in
+    let n = known (chunk_rows p (stamp_of c.args.at)) c.requires.tree in
     let o = opened_is q (stamp_of c.args.at) n.rows _
     (chunk_rows-kept p q (stamp_of c.args.at) n.rows c.show.ensures.grown.0 n.is) c.in_ok-held.ensures.content in
     subst (λ w. Gave g.S.TakesRows.has c.args.sink.now c.scan_chunk-answer.new.sink c.args.room

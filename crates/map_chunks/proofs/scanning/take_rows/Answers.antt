@@ -1,4 +1,4 @@
-use Rattle.std.proofs.Common.{◌<◌, ◌∙◌, sym, subst, arith, length}
+use Rattle.std.proofs.Common.{◌<◌, ◌∙◌, refl, sym, subst, arith, length}
 use Rattle.group_history.specs.Rows.{paired}
 use Rattle.map_chunks.specs.Scanning.{taken, Took}
 use Rattle.map_chunks.proofs.ScanLemmas.{alone, alone-rows, pairs_order, pairs_over, pairs_row, pairs_all, rows_begun}
@@ -7,8 +7,8 @@ use Rattle.map_chunks.proofs.TakenLemmas.{gave_begun}
 use Rattle.map_chunks.proofs.scanning.take_rows.Goals as goal
 
 pub loop-place-init : goal.loop-place-init
-loop-place-init g c = rows_begun (paired c.args.keys.now c.args.values.now) c.args.first c.args.scan.now
-    g.S.TakesRows.has c.args.sink.now c.args.room c.requires.none
+loop-place-init g c = rows_begun (paired c.args.keys.now c.args.values.now) 0 c.args.scan.now
+    g.S.TakesRows.has c.args.sink.now c.args.room refl
 
 pub returns-then-is_over : goal.returns-then-is_over
 returns-then-is_over g c =
@@ -45,4 +45,4 @@ returns g c =
     subst (λ w. Took g.S.TakesRows.has c.args.sink.now c.loop-place.sink c.args.room c.loop-place.left
     (taken c.args.scan.now c.args.room w))
     (pairs_all alone c.args.keys.now c.args.values.now c.loop-place.place rows c.requires.values (alone-rows rows)
-    (omega (arith, c.requires.first, c.loop-place-test.false))) c.loop-place.invariant
+    (omega (arith, c.loop-place-test.false))) c.loop-place.invariant

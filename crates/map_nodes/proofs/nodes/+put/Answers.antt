@@ -57,11 +57,11 @@ putting::paths::put_inner-put_child-requires g t c κs within =
     let p = g.C.Chunks.contents c.args.chunks.now in
     let at : OwnChild = Placed (record { bits = 0 }) in
     let i = c.place_for-place.result in
-    let x = node_at p c.args.depth c.args.keys.now.texts (Inner c.args.kids.now) c.args.kids.now
-    (body_pieces c.args.depth c.args.keys.now.texts (Inner c.args.kids.now)) c.as_slice.result.now
-    c.args.put.key.now i at
+    let x = node_at p c.args.here.depth c.args.keys.now.texts (Inner c.args.kids.now) c.args.kids.now
+    (body_pieces c.args.here.depth c.args.keys.now.texts (Inner c.args.kids.now)) c.as_slice.result.now
+    c.args.here.put.key.now i at
     refl refl c.requires.node c.as_slice.ensures
-    (subst (λ k. IsPlace k c.as_slice.result.now i) c.args.put.same c.place_for-place.ensures) c.requires.tree in (
+    (subst (λ k. IsPlace k c.as_slice.result.now i) c.args.here.put.same c.place_for-place.ensures) c.requires.tree in (
       omega (arith, x.2.1.0, c.decreases),
       (
         within.0,
@@ -71,21 +71,23 @@ putting::paths::put_inner-put_child-requires g t c κs within =
             within.1.1,
             (
               subst (λ ks. AreAll (g.C.Chunks.places c.args.chunks.now) (kids_places ks)) (sym c.reserve.ensures.items)
-                  (kids_may (g.C.Chunks.places c.args.chunks.now) c.args.depth c.args.keys.now.texts
+                  (kids_may (g.C.Chunks.places c.args.chunks.now) c.args.here.depth c.args.keys.now.texts
                   (Inner c.args.kids.now) c.args.kids.now
-                  (body_pieces c.args.depth c.args.keys.now.texts (Inner c.args.kids.now)) refl refl c.requires.node
+                  (body_pieces c.args.here.depth c.args.keys.now.texts (Inner c.args.kids.now)) refl refl
+                  c.requires.node
                   c.requires.places),
               (
                 omega (arith, x.3.0, x.2.1.2, ap length c.reserve.ensures.items),
                 (
-                  subst (λ w. IsPlace c.args.put.key.now w i) c.as_slice.ensures
-                      (subst (λ k. IsPlace k c.as_slice.result.now i) c.args.put.same c.place_for-place.ensures),
+                  subst (λ w. IsPlace c.args.here.put.key.now w i) c.as_slice.ensures
+                      (subst (λ k. IsPlace k c.as_slice.result.now i) c.args.here.put.same c.place_for-place.ensures),
                   (
                     omega (arith, x.2.1.0, c.requires.copies),
                     (
-                      child_requires p c.args.depth c.args.keys.now.texts c.args.kids.now.items
+                      child_requires p c.args.here.depth c.args.keys.now.texts c.args.kids.now.items
                           c.reserve.new.self.items
-                          (body_pieces c.args.depth c.args.keys.now.texts (Inner c.args.kids.now)) c.args.put.key.now i
+                          (body_pieces c.args.here.depth c.args.keys.now.texts (Inner c.args.kids.now))
+                          c.args.here.put.key.now i
                           (get_or c.args.kids.now.items i at) x.0 x.1 c.reserve.ensures.items,
                       c.requires.callable,
                     ),
@@ -103,24 +105,24 @@ putting::paths::put_inner-finish-requires-clause-fits g t c =
     let p = g.C.Chunks.contents c.args.chunks.now in
     let at : OwnChild = Placed (record { bits = 0 }) in
     let i = c.place_for-place.result in
-    let x = node_at p c.args.depth c.args.keys.now.texts (Inner c.args.kids.now) c.args.kids.now
-    (body_pieces c.args.depth c.args.keys.now.texts (Inner c.args.kids.now)) c.as_slice.result.now
-    c.args.put.key.now i at
+    let x = node_at p c.args.here.depth c.args.keys.now.texts (Inner c.args.kids.now) c.args.kids.now
+    (body_pieces c.args.here.depth c.args.keys.now.texts (Inner c.args.kids.now)) c.as_slice.result.now
+    c.args.here.put.key.now i at
     refl refl c.requires.node c.as_slice.ensures
-    (subst (λ k. IsPlace k c.as_slice.result.now i) c.args.put.same c.place_for-place.ensures) c.requires.tree in
+    (subst (λ k. IsPlace k c.as_slice.result.now i) c.args.here.put.same c.place_for-place.ensures) c.requires.tree in
     let q = g.C.Chunks.contents c.put_child.new.chunks in
     let child = get_or c.args.kids.now.items i at in
     let keys = c.args.keys.now.texts in
     let kids = c.args.kids.now.items in
     let kk : c.reserve.new.self.items ≡ kids = c.reserve.ensures.items in
     let r = c.in_ok-ready.ensures.put child (ap (λ w. slice_get w i) kk ∙ x.1) in
-    let put = subst (λ ks. IsChildPut q (c.args.put.copies + 1) (c.args.depth - 1) i (get_or keys i [])
-    c.args.put.key.now r.0 (child_rows p (c.args.depth - 1) child) ks c.put_child.new.kids.items child
+    let put = subst (λ ks. IsChildPut q (c.args.here.put.copies + 1) (c.args.here.depth - 1) i (get_or keys i [])
+    c.args.here.put.key.now r.0 (child_rows p (c.args.here.depth - 1) child) ks c.put_child.new.kids.items child
     c.in_ok-ready.half) kk r.2 in
     let done = put.done in
     let low = c.lower_first.ensures.texts ∙ ap (lowered i c.in_ok-ready.ready.lower) c.put_child.ensures.texts in
-    let u = put_path p q c.args.depth c.args.put.copies keys kids c.put_child.new.kids.items
-    (body_pieces c.args.depth c.args.keys.now.texts (Inner c.args.kids.now)) c.args.put.key.now r.0 i
+    let u = put_path p q c.args.here.depth c.args.here.put.copies keys kids c.put_child.new.kids.items
+    (body_pieces c.args.here.depth c.args.keys.now.texts (Inner c.args.kids.now)) c.args.here.put.key.now r.0 i
     child c.in_ok-ready.ready.lower
     c.in_ok-ready.half c.put_child.ensures.grown.0 x.2.1.2 x.0 c.in_ok-ready.ensures.lower done in
     let n : length c.lower_first.new.keys.texts ≡ length keys =
@@ -130,8 +132,8 @@ putting::paths::put_inner-finish-requires-clause-fits g t c =
       pairs = ap length done.1 ∙ length-set kids i (Own done.0) ∙ x.2.1.2 ∙ sym n;
       few = omega (arith, n, c.requires.node.0.0);
       within = omega (arith, n, x.3.0);
-      split = (c.args.put.copies, done.5);
-      all = subst (λ ks. AllKids (c.args.depth - 1)
+      split = (c.args.here.put.copies, done.5);
+      all = subst (λ ks. AllKids (c.args.here.depth - 1)
           (with_half i c.in_ok-ready.half (paired ks c.put_child.new.kids.items))) (sym low) u.all;
       order = subst (λ ks. T (rises (keys_of (with_half i c.in_ok-ready.half (paired ks c.put_child.new.kids.items)))))
           (sym low) u.order;
@@ -148,19 +150,19 @@ putting::paths::put_inner-finish-requires-clause-kids_room g t c =
     let p = g.C.Chunks.contents c.args.chunks.now in
     let at : OwnChild = Placed (record { bits = 0 }) in
     let i = c.place_for-place.result in
-    let x = node_at p c.args.depth c.args.keys.now.texts (Inner c.args.kids.now) c.args.kids.now
-    (body_pieces c.args.depth c.args.keys.now.texts (Inner c.args.kids.now)) c.as_slice.result.now
-    c.args.put.key.now i at
+    let x = node_at p c.args.here.depth c.args.keys.now.texts (Inner c.args.kids.now) c.args.kids.now
+    (body_pieces c.args.here.depth c.args.keys.now.texts (Inner c.args.kids.now)) c.as_slice.result.now
+    c.args.here.put.key.now i at
     refl refl c.requires.node c.as_slice.ensures
-    (subst (λ k. IsPlace k c.as_slice.result.now i) c.args.put.same c.place_for-place.ensures) c.requires.tree in
+    (subst (λ k. IsPlace k c.as_slice.result.now i) c.args.here.put.same c.place_for-place.ensures) c.requires.tree in
     let q = g.C.Chunks.contents c.put_child.new.chunks in
     let child = get_or c.args.kids.now.items i at in
     let keys = c.args.keys.now.texts in
     let kids = c.args.kids.now.items in
     let kk : c.reserve.new.self.items ≡ kids = c.reserve.ensures.items in
     let r = c.in_ok-ready.ensures.put child (ap (λ w. slice_get w i) kk ∙ x.1) in
-    let put = subst (λ ks. IsChildPut q (c.args.put.copies + 1) (c.args.depth - 1) i (get_or keys i [])
-    c.args.put.key.now r.0 (child_rows p (c.args.depth - 1) child) ks c.put_child.new.kids.items child
+    let put = subst (λ ks. IsChildPut q (c.args.here.put.copies + 1) (c.args.here.depth - 1) i (get_or keys i [])
+    c.args.here.put.key.now r.0 (child_rows p (c.args.here.depth - 1) child) ks c.put_child.new.kids.items child
     c.in_ok-ready.half) kk r.2 in
     let done = put.done in
     let low = c.lower_first.ensures.texts ∙ ap (lowered i c.in_ok-ready.ready.lower) c.put_child.ensures.texts in
@@ -187,14 +189,14 @@ putting::paths::put_inner-returns-clause-put g t c =
     let p = g.C.Chunks.contents c.args.chunks.now in
     let at : OwnChild = Placed (record { bits = 0 }) in
     let i = c.place_for-place.result in
-    let depth = c.args.depth in
+    let depth = c.args.here.depth in
     let keys = c.args.keys.now.texts in
     let kids = c.args.kids.now.items in
-    let key = c.args.put.key.now in
+    let key = c.args.here.put.key.now in
     let pieces = body_pieces depth keys (Inner c.args.kids.now) in
     let x = node_at p depth keys (Inner c.args.kids.now) c.args.kids.now pieces c.as_slice.result.now key i at
     refl refl c.requires.node c.as_slice.ensures
-    (subst (λ k. IsPlace k c.as_slice.result.now i) c.args.put.same c.place_for-place.ensures) c.requires.tree in
+    (subst (λ k. IsPlace k c.as_slice.result.now i) c.args.here.put.same c.place_for-place.ensures) c.requires.tree in
     let q = g.C.Chunks.contents c.put_child.new.chunks in
     let child = get_or kids i at in
     let new = c.put_child.new.kids.items in
@@ -202,10 +204,10 @@ putting::paths::put_inner-returns-clause-put g t c =
     let lower = c.in_ok-ready.ready.lower in
     let kk : c.reserve.new.self.items ≡ kids = c.reserve.ensures.items in
     let r = c.in_ok-ready.ensures.put child (ap (λ w. slice_get w i) kk ∙ x.1) in
-    let put = subst (λ ks. IsChildPut q (c.args.put.copies + 1) (depth - 1) i (get_or keys i []) key r.0
+    let put = subst (λ ks. IsChildPut q (c.args.here.put.copies + 1) (depth - 1) i (get_or keys i []) key r.0
     (child_rows p (depth - 1) child) ks new child half) kk r.2 in
     let low = c.lower_first.ensures.texts ∙ ap (lowered i lower) c.put_child.ensures.texts in
-    let u = put_path p q depth c.args.put.copies keys kids new pieces key r.0 i child lower half
+    let u = put_path p q depth c.args.here.put.copies keys kids new pieces key r.0 i child lower half
     c.put_child.ensures.grown.0 x.2.1.2 x.0 c.in_ok-ready.ensures.lower put.done in
     let is = c.finish.ensures.shape.0 ∙ ap (λ ks. kids_pieces (depth - 1) (with_half i half (paired ks new))) low in
     let same = value_below p depth keys kids pieces key i child x.0 in (
@@ -232,25 +234,26 @@ putting::paths::put_inner-returns-clause-half g t c =
     let p = g.C.Chunks.contents c.args.chunks.now in
     let at : OwnChild = Placed (record { bits = 0 }) in
     let i = c.place_for-place.result in
-    let x = node_at p c.args.depth c.args.keys.now.texts (Inner c.args.kids.now) c.args.kids.now
-    (body_pieces c.args.depth c.args.keys.now.texts (Inner c.args.kids.now)) c.as_slice.result.now
-    c.args.put.key.now i at
+    let x = node_at p c.args.here.depth c.args.keys.now.texts (Inner c.args.kids.now) c.args.kids.now
+    (body_pieces c.args.here.depth c.args.keys.now.texts (Inner c.args.kids.now)) c.as_slice.result.now
+    c.args.here.put.key.now i at
     refl refl c.requires.node c.as_slice.ensures
-    (subst (λ k. IsPlace k c.as_slice.result.now i) c.args.put.same c.place_for-place.ensures) c.requires.tree in
+    (subst (λ k. IsPlace k c.as_slice.result.now i) c.args.here.put.same c.place_for-place.ensures) c.requires.tree in
     let q = g.C.Chunks.contents c.put_child.new.chunks in
     let child = get_or c.args.kids.now.items i at in
     let keys = c.args.keys.now.texts in
     let kids = c.args.kids.now.items in
     let kk : c.reserve.new.self.items ≡ kids = c.reserve.ensures.items in
     let r = c.in_ok-ready.ensures.put child (ap (λ w. slice_get w i) kk ∙ x.1) in
-    let put = subst (λ ks. IsChildPut q (c.args.put.copies + 1) (c.args.depth - 1) i (get_or keys i [])
-    c.args.put.key.now r.0 (child_rows p (c.args.depth - 1) child) ks c.put_child.new.kids.items child
+    let put = subst (λ ks. IsChildPut q (c.args.here.put.copies + 1) (c.args.here.depth - 1) i (get_or keys i [])
+    c.args.here.put.key.now r.0 (child_rows p (c.args.here.depth - 1) child) ks c.put_child.new.kids.items child
     c.in_ok-ready.half) kk r.2 in
     let done = put.done in
     let low = c.lower_first.ensures.texts ∙ ap (lowered i c.in_ok-ready.ready.lower) c.put_child.ensures.texts in
-    c.finish.ensures.half c.args.put.copies done.5
-    (λ some key z. subst (λ ks. AreNinthIn c.args.put.copies ks (i + 1) key c.in_ok-ready.ready.room) (sym low)
-    (ninth_lowered_in c.args.put.copies keys i c.args.put.key.now c.in_ok-ready.ready.lower c.in_ok-ready.ready.room x.3
+    c.finish.ensures.half c.args.here.put.copies done.5
+    (λ some key z. subst (λ ks. AreNinthIn c.args.here.put.copies ks (i + 1) key c.in_ok-ready.ready.room) (sym low)
+    (ninth_lowered_in c.args.here.put.copies keys i c.args.here.put.key.now c.in_ok-ready.ready.lower
+    c.in_ok-ready.ready.room x.3
     c.in_ok-ready.ensures.lower (c.in_ok-ready.ensures.ready some).1 key z))
 
 pub putting::paths::put_inner-returns-clause-levels : goal.putting::paths::put_inner-returns-clause-levels
@@ -258,33 +261,33 @@ putting::paths::put_inner-returns-clause-levels g t c later pre =
     let p = g.C.Chunks.contents c.args.chunks.now in
     let at : OwnChild = Placed (record { bits = 0 }) in
     let i = c.place_for-place.result in
-    let x = node_at p c.args.depth c.args.keys.now.texts (Inner c.args.kids.now) c.args.kids.now
-    (body_pieces c.args.depth c.args.keys.now.texts (Inner c.args.kids.now)) c.as_slice.result.now
-    c.args.put.key.now i at
+    let x = node_at p c.args.here.depth c.args.keys.now.texts (Inner c.args.kids.now) c.args.kids.now
+    (body_pieces c.args.here.depth c.args.keys.now.texts (Inner c.args.kids.now)) c.as_slice.result.now
+    c.args.here.put.key.now i at
     refl refl c.requires.node c.as_slice.ensures
-    (subst (λ k. IsPlace k c.as_slice.result.now i) c.args.put.same c.place_for-place.ensures) c.requires.tree in
+    (subst (λ k. IsPlace k c.as_slice.result.now i) c.args.here.put.same c.place_for-place.ensures) c.requires.tree in
     let q = g.C.Chunks.contents c.put_child.new.chunks in
     let child = get_or c.args.kids.now.items i at in
     let keys = c.args.keys.now.texts in
     let kids = c.args.kids.now.items in
     let kk : c.reserve.new.self.items ≡ kids = c.reserve.ensures.items in
-    let done = subst (λ ks. ChildHalvesPut q (c.args.depth - 1) i ks c.put_child.new.kids.items child
+    let done = subst (λ ks. ChildHalvesPut q (c.args.here.depth - 1) i ks c.put_child.new.kids.items child
     c.in_ok-ready.half) kk (c.in_ok-ready.ensures.levels child (ap (λ w. slice_get w i) kk ∙ x.1)) in
     let low = c.lower_first.ensures.texts ∙ ap (lowered i c.in_ok-ready.ready.lower) c.put_child.ensures.texts in
     let n = ap length low ∙ length-lowered i c.in_ok-ready.ready.lower keys in
     let now = c.put_child.new.kids.items in
     let m : length now ≡ length keys = ap length done.1 ∙ length-set kids i (Own done.0) ∙ x.2.1.2 in
-    put_over later c.args.depth keys
+    put_over later c.args.here.depth keys
     (keys_of (with_half i c.in_ok-ready.half (paired c.lower_first.new.keys.texts now)))
-    c.finish.new.keys.texts c.finish.result (kids_levels (c.args.depth - 1) kids later) c.finish.new.kids.items
+    c.finish.new.keys.texts c.finish.result (kids_levels (c.args.here.depth - 1) kids later) c.finish.new.kids.items
     (values_of (with_half i c.in_ok-ready.half (paired c.lower_first.new.keys.texts now))) c.requires.node.1.0
-    (subst (λ ks. ArePut (c.args.depth - 1) (kids_levels (c.args.depth - 1) kids later)
-    (kids_levels (c.args.depth - 1) (values_of (with_half i c.in_ok-ready.half (paired ks now))) later)) (sym low)
-    (child_put p later c.args.depth keys kids now
-    (body_pieces c.args.depth c.args.keys.now.texts (Inner c.args.kids.now)) c.args.put.key.now i child
+    (subst (λ ks. ArePut (c.args.here.depth - 1) (kids_levels (c.args.here.depth - 1) kids later)
+    (kids_levels (c.args.here.depth - 1) (values_of (with_half i c.in_ok-ready.half (paired ks now))) later)) (sym low)
+    (child_put p later c.args.here.depth keys kids now
+    (body_pieces c.args.here.depth c.args.keys.now.texts (Inner c.args.kids.now)) c.args.here.put.key.now i child
     c.in_ok-ready.ready.lower c.in_ok-ready.half x.2.1.2 x.0 done.0 done.1 (done.2 later pre)))
     (subst (λ ks. AreFirsts keys (keys_of (with_half i c.in_ok-ready.half (paired ks now)))) (sym low)
-    (firsts_are keys now i c.in_ok-ready.ready.lower c.in_ok-ready.half c.args.put.key.now x.3
+    (firsts_are keys now i c.in_ok-ready.ready.lower c.in_ok-ready.half c.args.here.put.key.now x.3
     c.in_ok-ready.ensures.lower m))
     c.finish.ensures.parted
     (subst (λ w. HasKept w (length c.finish.new.keys.texts) c.finish.result) n c.finish.ensures.entries)
@@ -295,15 +298,16 @@ putting::paths::put_child-returns-in-Own-clause-levels g t c x h =
     let child = c.index_mut.result.now in
     let n : Kid = with_value c.in-Own.node c.put_below.new.self in
     let q = g.C.Chunks.contents c.put_below.new.chunks in
-    let r = c.requires.tree child (child_at kids c.args.place
+    let r = c.requires.tree child (child_at kids c.args.here.place
     (length kids) child refl c.requires.within c.index_mut.ensures.value) in
-    let deep : c.in-Own.node.value.depth ≡ c.args.below = subst (HasDepth c.args.below) c.in-Own.is r.1 in
-    let e : x ≡ Own c.in-Own.node = indexed_child kids c.args.place child x c.requires.within c.index_mut.ensures.value
+    let deep : c.in-Own.node.value.depth ≡ c.args.here.depth = subst (HasDepth c.args.here.depth) c.in-Own.is r.1 in
+    let e : x ≡ Own c.in-Own.node = indexed_child kids c.args.here.place child x c.requires.within
+    c.index_mut.ensures.value
     h ∙ c.in-Own.is in
     if_ok_so c.put_below.result c.put_below.ensures.levels (λ put levels. (
       n,
       refl,
-      λ later pre. subst (λ y. ArePut c.args.below (child_levels c.args.below y later)
+      λ later pre. subst (λ y. ArePut c.args.here.depth (child_levels c.args.here.depth y later)
           (λ i. seen_levels c.put_below.new.self later i ++ half_levels put.1 later i)) (sym e)
           (subst (λ d. ArePut d (seen_levels c.in-Own.node.value later)
           (λ i. seen_levels c.put_below.new.self later i ++ half_levels put.1 later i)) deep
@@ -315,26 +319,26 @@ pub putting::paths::put_child-returns-in-Placed-clause-levels :
 putting::paths::put_child-returns-in-Placed-clause-levels g t c x h =
     let kids = c.args.kids.now.items in
     let child = c.index_mut.result.now in
-    let below = c.args.below in
+    let below = c.args.here.depth in
     let p = g.C.Chunks.contents c.args.chunks.now in
     let n : Kid = c.in_ok-ready-in-Placed.node in
     let half = c.in_ok-ready-in-Placed.half in
-    let tree = c.requires.tree child (child_at kids c.args.place
+    let tree = c.requires.tree child (child_at kids c.args.here.place
     (length kids) child refl c.requires.within c.index_mut.ensures.value) in
     let t : IsTree (rows_at p below (stamp_of c.in-Placed.at)) =
     subst (λ y. IsTree (child_rows p below y)) c.in-Placed.is tree.0 in
     let u = c.in_ok-ready-in-Placed.ensures.put below (depth_at p below (stamp_of c.in-Placed.at) t) in
-    let e : x ≡ Placed c.in-Placed.at = indexed_child kids c.args.place child x c.requires.within
+    let e : x ≡ Placed c.in-Placed.at = indexed_child kids c.args.here.place child x c.requires.within
     c.index_mut.ensures.value h ∙ c.in-Placed.is in (
       n,
-      set-set kids c.args.place (Placed c.in-Placed.at) (Own n),
+      set-set kids c.args.here.place (Placed c.in-Placed.at) (Own n),
       λ later pre. subst (λ y. ArePut below (child_levels below y later)
           (λ i. seen_levels n.value later i ++ half_levels half later i)) (sym e) (u.3.levels later pre),
     )
 
 pub putting::paths::put_inner-returns-clause-filled : goal.putting::paths::put_inner-returns-clause-filled
 putting::paths::put_inner-returns-clause-filled g t c =
-    filled_kids (c.args.depth - 1) (paired c.finish.new.keys.texts c.finish.new.kids.items)
+    filled_kids (c.args.here.depth - 1) (paired c.finish.new.keys.texts c.finish.new.kids.items)
     (length-pairs c.finish.new.keys.texts c.finish.new.kids.items c.finish.ensures.shape.1 c.finish.ensures.shape.3)
     c.finish.ensures.shape.4
 
@@ -344,11 +348,11 @@ putting::paths::put_child-put_below-requires g t c κs within =
     let p = g.C.Chunks.contents c.args.chunks.now in
     let kids = c.args.kids.now.items in
     let child = c.index_mut.result.now in
-    let r = c.requires.tree child (child_at kids c.args.place
+    let r = c.requires.tree child (child_at kids c.args.here.place
     (length kids) child refl c.requires.within c.index_mut.ensures.value) in
     let v = c.deref_mut.ensures.value in
-    let d : c.deref_mut.result.now.depth ≡ c.args.below = ap (λ (s : Seen). s.depth) v ∙ subst
-    (HasDepth c.args.below) c.in-Own.is r.1 in (
+    let d : c.deref_mut.result.now.depth ≡ c.args.here.depth = ap (λ (s : Seen). s.depth) v ∙ subst
+    (HasDepth c.args.here.depth) c.in-Own.is r.1 in (
       omega (arith, d, c.decreases),
       (
         within.0,
@@ -359,10 +363,11 @@ putting::paths::put_child-put_below-requires g t c κs within =
             (
               subst (λ (s : Seen). AreAll may (places_of s.pieces)) (sym v)
                   (own_may may child c.in-Own.node c.in-Own.is
-                  (kid_all may kids c.args.place child c.requires.within c.index_mut.ensures.value c.requires.places)),
+                  (kid_all may kids c.args.here.place child c.requires.within c.index_mut.ensures.value
+                  c.requires.places)),
               (
                 subst (λ (s : Seen). IsTree (shown p s.pieces)) (sym v)
-                    (subst (λ x. IsTree (child_rows p c.args.below x)) c.in-Own.is r.0),
+                    (subst (λ x. IsTree (child_rows p c.args.here.depth x)) c.in-Own.is r.0),
                 (c.requires.place, (omega (arith, d, c.requires.copies), c.requires.callable)),
               ),
             ),
@@ -376,11 +381,11 @@ putting::paths::put_child-returns-in-Own-clause-put g t c x h =
     let p = g.C.Chunks.contents c.args.chunks.now in
     let q = g.C.Chunks.contents c.put_below.new.chunks in
     let kids = c.args.kids.now.items in
-    let below = c.args.below in
-    let place = c.args.place in
+    let below = c.args.here.depth in
+    let place = c.args.here.place in
     let first = get_or c.args.keys.now.texts place [] in
-    let key = c.args.put.key.now in
-    let copies = c.args.put.copies + 1 in
+    let key = c.args.here.put.key.now in
+    let copies = c.args.here.put.copies + 1 in
     let child = c.index_mut.result.now in
     let r = c.requires.tree child (child_at kids place (length kids) child refl c.requires.within
     c.index_mut.ensures.value) in
@@ -411,7 +416,7 @@ putting::paths::put_child-put_placed-requires-clause-may g t c =
     let may = g.C.Chunks.places c.args.chunks.now in
     let child = c.index_mut.result.now in
     placed_may may child c.in-Placed.at c.in-Placed.is
-    (kid_all may c.args.kids.now.items c.args.place child c.requires.within c.index_mut.ensures.value
+    (kid_all may c.args.kids.now.items c.args.here.place child c.requires.within c.index_mut.ensures.value
     c.requires.places)
 
 pub putting::paths::put_child-put_placed-requires-clause-tree :
@@ -420,12 +425,12 @@ putting::paths::put_child-put_placed-requires-clause-tree g t c =
     let p = g.C.Chunks.contents c.args.chunks.now in
     let kids = c.args.kids.now.items in
     let child = c.index_mut.result.now in
-    let r = c.requires.tree child (child_at kids c.args.place
+    let r = c.requires.tree child (child_at kids c.args.here.place
     (length kids) child refl c.requires.within c.index_mut.ensures.value) in
     let k = stamp_of c.in-Placed.at in
-    let tree : IsTree (rows_at p c.args.below k) =
-    subst (λ x. IsTree (child_rows p c.args.below x)) c.in-Placed.is r.0 in
-    subst IsTree (sym (rows_alone p c.args.below k tree)) tree
+    let tree : IsTree (rows_at p c.args.here.depth k) =
+    subst (λ x. IsTree (child_rows p c.args.here.depth x)) c.in-Placed.is r.0 in
+    subst IsTree (sym (rows_alone p c.args.here.depth k tree)) tree
 
 pub putting::paths::put_child-put_placed-requires-clause-copies :
     goal.putting::paths::put_child-put_placed-requires-clause-copies
@@ -433,12 +438,12 @@ putting::paths::put_child-put_placed-requires-clause-copies g t c d is =
     let p = g.C.Chunks.contents c.args.chunks.now in
     let kids = c.args.kids.now.items in
     let child = c.index_mut.result.now in
-    let r = c.requires.tree child (child_at kids c.args.place
+    let r = c.requires.tree child (child_at kids c.args.here.place
     (length kids) child refl c.requires.within c.index_mut.ensures.value) in
     let k = stamp_of c.in-Placed.at in
-    let tree : IsTree (rows_at p c.args.below k) =
-    subst (λ x. IsTree (child_rows p c.args.below x)) c.in-Placed.is r.0 in
-    let same : c.args.below ≡ d = some_is (sym (depth_at p c.args.below k tree) ∙ is) in
+    let tree : IsTree (rows_at p c.args.here.depth k) =
+    subst (λ x. IsTree (child_rows p c.args.here.depth x)) c.in-Placed.is r.0 in
+    let same : c.args.here.depth ≡ d = some_is (sym (depth_at p c.args.here.depth k tree) ∙ is) in
     omega (arith, same, c.requires.copies)
 
 pub putting::paths::put_child-returns-in-Placed-clause-put :
@@ -448,11 +453,11 @@ putting::paths::put_child-returns-in-Placed-clause-put g t c x h =
     let q = g.C.Chunks.contents c.put_placed.new.chunks in
     let may = g.C.Chunks.places c.put_placed.new.chunks in
     let kids = c.args.kids.now.items in
-    let below = c.args.below in
-    let place = c.args.place in
+    let below = c.args.here.depth in
+    let place = c.args.here.place in
     let first = get_or c.args.keys.now.texts place [] in
-    let key = c.args.put.key.now in
-    let copies = c.args.put.copies + 1 in
+    let key = c.args.here.put.key.now in
+    let copies = c.args.here.put.copies + 1 in
     let child = c.index_mut.result.now in
     let at = c.in-Placed.at in
     let n : Kid = c.in_ok-ready-in-Placed.node in
@@ -488,7 +493,7 @@ putting::paths::put_inner-returns-clause-entries g t c =
 pub putting::paths::put_child-returns-in-Own-clause-err : goal.putting::paths::put_child-returns-in-Own-clause-err
 putting::paths::put_child-returns-in-Own-clause-err g t c =
     on_err c.put_below.result c.put_below.ensures.err
-    (λ e. written_back c.args.kids.now.items c.args.place c.index_mut.result.now c.in-Own.node c.put_below.new.self
+    (λ e. written_back c.args.kids.now.items c.args.here.place c.index_mut.result.now c.in-Own.node c.put_below.new.self
     c.index_mut.ensures.value c.in-Own.is (e ∙ c.deref_mut.ensures.value))
 
 -- REFERENCES
@@ -498,11 +503,11 @@ putting::paths::put_inner-returns-clause-places g t c =
     let p = g.C.Chunks.contents c.args.chunks.now in
     let at : OwnChild = Placed (record { bits = 0 }) in
     let i = c.place_for-place.result in
-    let x = node_at p c.args.depth c.args.keys.now.texts (Inner c.args.kids.now) c.args.kids.now
-    (body_pieces c.args.depth c.args.keys.now.texts (Inner c.args.kids.now)) c.as_slice.result.now
-    c.args.put.key.now i at
+    let x = node_at p c.args.here.depth c.args.keys.now.texts (Inner c.args.kids.now) c.args.kids.now
+    (body_pieces c.args.here.depth c.args.keys.now.texts (Inner c.args.kids.now)) c.as_slice.result.now
+    c.args.here.put.key.now i at
     refl refl c.requires.node c.as_slice.ensures
-    (subst (λ k. IsPlace k c.as_slice.result.now i) c.args.put.same c.place_for-place.ensures) c.requires.tree in
+    (subst (λ k. IsPlace k c.as_slice.result.now i) c.args.here.put.same c.place_for-place.ensures) c.requires.tree in
     let q = g.C.Chunks.contents c.put_child.new.chunks in
     let at_q = g.C.Chunks.places c.put_child.new.chunks in
     let child = get_or c.args.kids.now.items i at in
@@ -510,8 +515,8 @@ putting::paths::put_inner-returns-clause-places g t c =
     let kids = c.args.kids.now.items in
     let kk : c.reserve.new.self.items ≡ kids = c.reserve.ensures.items in
     let r = c.in_ok-ready.ensures.put child (ap (λ w. slice_get w i) kk ∙ x.1) in
-    let put = subst (λ ks. IsChildPut q (c.args.put.copies + 1) (c.args.depth - 1) i (get_or keys i [])
-    c.args.put.key.now r.0 (child_rows p (c.args.depth - 1) child) ks c.put_child.new.kids.items child
+    let put = subst (λ ks. IsChildPut q (c.args.here.put.copies + 1) (c.args.here.depth - 1) i (get_or keys i [])
+    c.args.here.put.key.now r.0 (child_rows p (c.args.here.depth - 1) child) ks c.put_child.new.kids.items child
     c.in_ok-ready.half) kk r.2 in
     let done = put.done in
     let low = c.lower_first.ensures.texts ∙ ap (lowered i c.in_ok-ready.ready.lower) c.put_child.ensures.texts in
@@ -519,11 +524,11 @@ putting::paths::put_inner-returns-clause-places g t c =
     ap length done.1 ∙ length-set kids i (Own done.0) ∙ x.2.1.2 ∙ sym
     (ap length low ∙ length-lowered i c.in_ok-ready.ready.lower keys) in
     let here : kids_places c.reserve.new.self.items
-    ≡ places_of (body_pieces c.args.depth c.args.keys.now.texts (Inner c.args.kids.now)) =
-    ap kids_places kk ∙ sym (own-places c.args.depth keys (Inner c.args.kids.now) c.args.kids.now
-    (body_pieces c.args.depth c.args.keys.now.texts (Inner c.args.kids.now)) refl refl x.2.1.2) in
-    kept-finished at_q (places_of (body_pieces c.args.depth c.args.keys.now.texts (Inner c.args.kids.now)))
-    (c.args.depth - 1) i c.in_ok-ready.half c.lower_first.new.keys.texts c.put_child.new.kids.items _ n
+    ≡ places_of (body_pieces c.args.here.depth c.args.keys.now.texts (Inner c.args.kids.now)) =
+    ap kids_places kk ∙ sym (own-places c.args.here.depth keys (Inner c.args.kids.now) c.args.kids.now
+    (body_pieces c.args.here.depth c.args.keys.now.texts (Inner c.args.kids.now)) refl refl x.2.1.2) in
+    kept-finished at_q (places_of (body_pieces c.args.here.depth c.args.keys.now.texts (Inner c.args.kids.now)))
+    (c.args.here.depth - 1) i c.in_ok-ready.half c.lower_first.new.keys.texts c.put_child.new.kids.items _ n
     c.finish.ensures.shape.0
     (subst (λ w. AreKept at_q w (kids_places c.put_child.new.kids.items ++ places_of (half_pieces c.in_ok-ready.half)))
     here c.in_ok-ready.ensures.places)
@@ -535,7 +540,8 @@ putting::paths::put_child-returns-in-Own-clause-places g t c =
     let at_q = g.C.Chunks.places c.put_below.new.chunks in
     let n : Kid = with_value c.in-Own.node c.put_below.new.self in
     if_ok_so c.put_below.result c.put_below.ensures.places
-    (λ put kept. kept-kid at_q kids c.args.place child n (half_pieces put.1) c.requires.within c.index_mut.ensures.value
+    (λ put kept. kept-kid at_q kids c.args.here.place child n (half_pieces put.1) c.requires.within
+    c.index_mut.ensures.value
     (subst (λ (x : OwnChild). AreKept at_q (child_places x)
     (places_of (c.put_below.new.self.pieces ++ half_pieces put.1)))
     (sym c.in-Own.is)
@@ -552,14 +558,14 @@ putting::paths::put_child-returns-in-Placed-clause-places g t c =
     let at_q = g.C.Chunks.places c.put_placed.new.chunks in
     let n : Kid = c.in_ok-ready-in-Placed.node in
     let half = half_pieces c.in_ok-ready-in-Placed.half in
-    let r = c.requires.tree child (child_at kids c.args.place
+    let r = c.requires.tree child (child_at kids c.args.here.place
     (length kids) child refl c.requires.within c.index_mut.ensures.value) in
-    let tree : IsTree (rows_at p c.args.below (stamp_of at)) =
-    subst (λ y. IsTree (child_rows p c.args.below y)) c.in-Placed.is r.0 in
-    let u = c.in_ok-ready-in-Placed.ensures.put c.args.below (depth_at p c.args.below (stamp_of at) tree) in
+    let tree : IsTree (rows_at p c.args.here.depth (stamp_of at)) =
+    subst (λ y. IsTree (child_rows p c.args.here.depth y)) c.in-Placed.is r.0 in
+    let u = c.in_ok-ready-in-Placed.ensures.put c.args.here.depth (depth_at p c.args.here.depth (stamp_of at) tree) in
     subst (λ ks. AreKept at_q (kids_places kids) (kids_places ks ++ places_of half))
-    (sym (set-set kids c.args.place (Placed at) (Own n)))
-    (kept-kid at_q kids c.args.place child n half c.requires.within c.index_mut.ensures.value
+    (sym (set-set kids c.args.here.place (Placed at) (Own n)))
+    (kept-kid at_q kids c.args.here.place child n half c.requires.within c.index_mut.ensures.value
     (kept-from_none at_q (child_places child) (places_of (n.value.pieces ++ half)) u.3.kept))
 
 pub putting::paths::put_inner-returns-clause-node : goal.putting::paths::put_inner-returns-clause-node
@@ -792,13 +798,13 @@ OwnNode::put-returns-in-Inner-clause-levels g t c =
 pub putting::paths::put_child-returns-in-Own-clause-unput : goal.putting::paths::put_child-returns-in-Own-clause-unput
 putting::paths::put_child-returns-in-Own-clause-unput g t c x h =
     let p = g.C.Chunks.contents c.args.chunks.now in
-    let key = c.args.put.key.now in
-    let e : x ≡ Own c.in-Own.node = indexed_child c.args.kids.now.items c.args.place c.index_mut.result.now x
+    let key = c.args.here.put.key.now in
+    let e : x ≡ Own c.in-Own.node = indexed_child c.args.kids.now.items c.args.here.place c.index_mut.result.now x
     c.requires.within c.index_mut.ensures.value h ∙ c.in-Own.is in
     let unput = λ (z : Option Rows). IfErr c.put_below.result (IsUnput (λ made.
     Makes (λ f there m. g.F.FnOnce.post f (there, tt) m) c.args.change (value_in z key) made) g.C.Chunks.stops
     (value_in z key)) in
-    subst (λ y. unput (child_rows p c.args.below y)) (sym e)
+    subst (λ y. unput (child_rows p c.args.here.depth y)) (sym e)
     (subst (λ (s : Seen). unput (shown p s.pieces)) c.deref_mut.ensures.value c.put_below.ensures.unput)
 
 pub putting::paths::put_child-returns-in_err-ready-in-Placed-clause-unput :
@@ -806,13 +812,13 @@ pub putting::paths::put_child-returns-in_err-ready-in-Placed-clause-unput :
 putting::paths::put_child-returns-in_err-ready-in-Placed-clause-unput g t c x h =
     let p = g.C.Chunks.contents c.args.chunks.now in
     let kids = c.args.kids.now.items in
-    let below = c.args.below in
-    let key = c.args.put.key.now in
+    let below = c.args.here.depth in
+    let key = c.args.here.put.key.now in
     let child = c.index_mut.result.now in
     let k = stamp_of c.in-Placed.at in
-    let e : x ≡ Placed c.in-Placed.at = indexed_child kids c.args.place child x c.requires.within
+    let e : x ≡ Placed c.in-Placed.at = indexed_child kids c.args.here.place child x c.requires.within
     c.index_mut.ensures.value h ∙ c.in-Placed.is in
-    let r = c.requires.tree child (child_at kids c.args.place
+    let r = c.requires.tree child (child_at kids c.args.here.place
     (length kids) child refl c.requires.within c.index_mut.ensures.value) in
     let tree : IsTree (rows_at p below k) = subst (λ y. IsTree (child_rows p below y)) c.in-Placed.is r.0 in
     let there : chunk_rows p k ≡ child_rows p below x = rows_alone p below k tree ∙ ap (child_rows p below) (sym e) in
@@ -830,14 +836,14 @@ putting::paths::put_inner-returns-in_err-ready-clause-unput g t c =
     let p = g.C.Chunks.contents c.args.chunks.now in
     let at : OwnChild = Placed (record { bits = 0 }) in
     let i = c.place_for-place.result in
-    let depth = c.args.depth in
+    let depth = c.args.here.depth in
     let keys = c.args.keys.now.texts in
     let kids = c.args.kids.now.items in
-    let key = c.args.put.key.now in
+    let key = c.args.here.put.key.now in
     let pieces = body_pieces depth keys (Inner c.args.kids.now) in
     let x = node_at p depth keys (Inner c.args.kids.now) c.args.kids.now pieces c.as_slice.result.now key i at
     refl refl c.requires.node c.as_slice.ensures
-    (subst (λ k. IsPlace k c.as_slice.result.now i) c.args.put.same c.place_for-place.ensures) c.requires.tree in
+    (subst (λ k. IsPlace k c.as_slice.result.now i) c.args.here.put.same c.place_for-place.ensures) c.requires.tree in
     let child = get_or kids i at in
     let unput = λ (found : Option Bytes). IsUnput (λ made.
     Makes (λ f there m. g.F.FnOnce.post f (there, tt) m) c.args.change found made) g.C.Chunks.stops found in

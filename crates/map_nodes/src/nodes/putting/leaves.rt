@@ -200,8 +200,7 @@ fn settle_row(
         spare,
         home,
     } = room;
-    let (key, value) = row;
-    let Some((upper_keys, upper)) = insert_entry(keys, values, place, key, value, spare) else {
+    let Some((upper_keys, upper)) = insert_entry(keys, values, place, row, spare) else {
         return None;
     };
     let upper = OwnNode {

@@ -15,7 +15,14 @@ use super::splits::SplitBuffers;
 use group_history::Text;
 use map_chunks::entries::insert_entry;
 use map_chunks::keys::NodeKeys;
-use std::alloc::Global;
+
+/// The upper half of the child at a place, where that was split, and the room that was taken for it.
+#[derive(Drop)]
+pub(crate) struct ChildSplit {
+    pub(crate) place: usize,
+    pub(crate) room: Option<Box<SplitBuffers<OwnChild>>>,
+    pub(crate) half: Option<Half>,
+}
 
 /// Puts a lower first key in the place of one, if there is one.
 #[inline(always)]
@@ -35,27 +42,26 @@ pub(crate) fn lower_first(keys: &mut NodeKeys, place: usize, lower: Option<Text>
 pub(crate) fn finish(
     keys: &mut NodeKeys,
     kids: &mut Vec<OwnChild>,
-    place: usize,
     depth: u64,
-    alloc: Global,
-    room: Option<Box<SplitBuffers<OwnChild>>>,
-    half: Option<Half>,
+    split: ChildSplit,
 ) -> Option<Half>
-    requires fits { Fits depth place keys.old.texts kids.old.items half }
+    requires fits { Fits depth split.place keys.old.texts kids.old.items split.half }
     requires kids_room { vec_len kids.old < vec_capacity kids.old }
-    requires keys_room { IsSome half → 0 < keys.old.room }
-    requires room { IsSome half → HasRoomIn (length keys.old.texts) room }
-    ensures shape { Finished depth (with_half place half (paired keys.old.texts kids.old.items)) keys.new.texts
-        kids.new.items result }
-    ensures half { (copies : ℕ) → IsHalf (copies + 1) (depth - 1) half
-        → (IsSome half → (key : Bytes) → (place + 1 ≡ 8 → ⊥)
-        → AreNinthIn copies keys.old.texts (place + 1) key room) → IsHalf copies depth result }
+    requires keys_room { IsSome split.half → 0 < keys.old.room }
+    requires room { IsSome split.half → HasRoomIn (length keys.old.texts) split.room }
+    ensures shape { Finished depth (with_half split.place split.half
+        (paired keys.old.texts kids.old.items)) keys.new.texts kids.new.items result }
+    ensures half { (copies : ℕ) → IsHalf (copies + 1) (depth - 1) split.half
+        → (IsSome split.half → (key : Bytes) → (split.place + 1 ≡ 8 → ⊥)
+        → AreNinthIn copies keys.old.texts (split.place + 1) key split.room)
+        → IsHalf copies depth result }
     ensures entries { HasKept (length keys.old.texts) (length keys.new.texts) result }
     ensures parted { IsHalved depth keys.new.texts kids.new.items result
-        (keys_of (with_half place half (paired keys.old.texts kids.old.items)))
-        (values_of (with_half place half (paired keys.old.texts kids.old.items))) }
-    ensures whole { half ≡ None → result ≡ None }
+        (keys_of (with_half split.place split.half (paired keys.old.texts kids.old.items)))
+        (values_of (with_half split.place split.half (paired keys.old.texts kids.old.items))) }
+    ensures whole { split.half ≡ None → result ≡ None }
 {
+    let ChildSplit { place, room, half } = split;
     let Some(half) = half else {
         return None;
     };
@@ -70,13 +76,12 @@ pub(crate) fn finish(
         firsts,
         spare,
         home,
-    } = SplitBuffers::opened(room, alloc);
+    } = SplitBuffers::opened(room, *kids.allocator());
     let Some((upper_keys, upper)) = insert_entry(
         keys,
         kids,
         place + 1,
-        first,
-        OwnChild::Own(node),
+        (first, OwnChild::Own(node)),
         spare,
     ) else {
         return None;

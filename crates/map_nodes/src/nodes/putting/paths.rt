@@ -32,7 +32,7 @@ ghost use Rattle.map_nodes.specs.declared.nodes.trails.laying.Reached.TheVariant
 use super::super::{Body, Down, Laying, OwnChild, OwnNode, Reached, change_at};
 use super::below::PutBuffers;
 use super::leaves::put_leaf;
-use super::middles::{finish, lower_first};
+use super::middles::{ChildSplit, finish, lower_first};
 use super::{Half, Put, PutRefused};
 use crate::changes::Change;
 use group_history::{Json, Ref, Stop, Update};
@@ -41,100 +41,134 @@ use map_chunks::entries::MOST;
 use map_chunks::keys::NodeKeys;
 use map_chunks::search::place_for;
 
+/// A put in an inner chunk that is so deep.
+#[derive(Clone, Copy)]
+struct PutIn<'a> {
+    put: Put<'a>,
+    depth: u64,
+}
+
+/// A put below the child at a place, which is so deep.
+#[derive(Clone, Copy)]
+struct PutBelow<'a> {
+    put: Put<'a>,
+    place: usize,
+    depth: u64,
+}
+
 // Puts a row below a chunk with these keys and children, and splits them where they are 17 then.
 #[cycle(put)]
 fn put_inner<C: Chunks, F: FnOnce(Option<Json>) -> Result<Update, Stop>>(
     keys: &mut NodeKeys,
     kids: &mut Vec<OwnChild>,
-    depth: u64,
     chunks: &mut C,
-    put: Put<'_>,
+    here: PutIn<'_>,
     change: Change<F>,
 ) -> Result<Option<Half>, PutRefused>
     requires places { AreAll (C.places chunks.old)
-        (places_of (body_pieces depth keys.old.texts (body.Inner kids.old))) }
-    requires node { IsNode depth keys.old.texts (body.Inner kids.old) }
-    requires tree { IsTree (shown (C.contents chunks.old) (body_pieces depth keys.old.texts (body.Inner kids.old))) }
-    requires copies { put.copies + depth < 2 ^ 64 }
+        (places_of (body_pieces here.depth keys.old.texts (body.Inner kids.old))) }
+    requires node { IsNode here.depth keys.old.texts (body.Inner kids.old) }
+    requires tree { IsTree (shown (C.contents chunks.old)
+        (body_pieces here.depth keys.old.texts (body.Inner kids.old))) }
+    requires copies { here.put.copies + here.depth < 2 ^ 64 }
     requires callable { CanMake (λ f. F.IsAlwaysCallable f) change }
     ensures grown { Grows C.contents C.places chunks.old chunks.new }
-    ensures node { IsNode depth keys.new.texts (body.Inner kids.new) }
+    ensures node { IsNode here.entry.depth keys.new.texts (body.Inner kids.new) }
     ensures put { IfOk result (λ half. (v : Bytes) × Makes (λ f x r. F.post f x r) change (value_in
-        (shown (C.contents chunks.old) (body_pieces depth keys.old.texts (body.Inner kids.old))) put.entry.key.now)
-        (Ok (Puts v)) × IsOwnPut (C.contents chunks.new) put.entry.key.now v
-        (shown (C.contents chunks.old) (body_pieces depth keys.old.texts (body.Inner kids.old)))
-        (body_pieces depth keys.old.texts (body.Inner kids.old))
-        (body_pieces depth keys.new.texts (body.Inner kids.new))
-        depth (body_levels depth keys.old.texts (body.Inner kids.old))
-        (body_levels depth keys.new.texts (body.Inner kids.new)) half) }
-    ensures half { IfOk result (IsHalf put.entry.copies depth) }
+        (shown (C.contents chunks.old) (body_pieces here.entry.depth keys.old.texts (body.Inner kids.old)))
+        here.entry.put.key.now)
+        (Ok (Puts v)) × IsOwnPut (C.contents chunks.new) here.entry.put.key.now v
+        (shown (C.contents chunks.old) (body_pieces here.entry.depth keys.old.texts (body.Inner kids.old)))
+        (body_pieces here.entry.depth keys.old.texts (body.Inner kids.old))
+        (body_pieces here.entry.depth keys.new.texts (body.Inner kids.new))
+        here.entry.depth (body_levels here.entry.depth keys.old.texts (body.Inner kids.old))
+        (body_levels here.entry.depth keys.new.texts (body.Inner kids.new)) half) }
+    ensures half { IfOk result (IsHalf here.entry.put.copies here.entry.depth) }
     ensures places { IfOk result (λ half. AreKept (C.places chunks.new)
-        (places_of (body_pieces depth keys.old.texts (body.Inner kids.old)))
-        (places_of (body_pieces depth keys.new.texts (body.Inner kids.new) ++ half_pieces half))) }
+        (places_of (body_pieces here.entry.depth keys.old.texts (body.Inner kids.old)))
+        (places_of (body_pieces here.entry.depth keys.new.texts (body.Inner kids.new) ++ half_pieces half))) }
     ensures entries { IfOk result (HasKept (length keys.old.texts) (length keys.new.texts)) }
     ensures levels { IfOk result (λ half. (later : Contents) → IsPrefix (C.contents chunks.new) later
-        → ArePut depth (body_levels depth keys.old.texts (body.Inner kids.old) later)
-        (λ level. body_levels depth keys.new.texts (body.Inner kids.new) later level
+        → ArePut here.entry.depth (body_levels here.entry.depth keys.old.texts (body.Inner kids.old) later)
+        (λ level. body_levels here.entry.depth keys.new.texts (body.Inner kids.new) later level
         ++ half_levels half later level)) }
-    ensures filled { OnOk result (0 < length (body_pieces depth keys.new.texts (body.Inner kids.new))) }
+    ensures filled { OnOk result (0 < length (body_pieces here.entry.depth keys.new.texts (body.Inner kids.new))) }
     ensures err { OnErr result ((keys.new.texts ≡ keys.old.texts) × (kids.new.items ≡ kids.old.items)) }
     ensures unput { IfErr result (IsUnput (λ made. Makes (λ f x r. F.post f x r) change (value_in
-        (shown (C.contents chunks.old) (body_pieces depth keys.old.texts (body.Inner kids.old))) put.entry.key.now)
-        made)
+        (shown (C.contents chunks.old) (body_pieces here.entry.depth keys.old.texts (body.Inner kids.old)))
+        here.entry.put.key.now) made)
         C.stops (value_in (shown (C.contents chunks.old)
-        (body_pieces depth keys.old.texts (body.Inner kids.old))) put.entry.key.now)) }
+        (body_pieces here.entry.depth keys.old.texts (body.Inner kids.old))) here.entry.put.key.now)) }
 {
+    let PutIn { put, depth } = here;
     let place = place_for(keys.as_slice(), put.searched);
     kids.reserve(1)?;
-    let (ready, half) = put_child(keys, kids, place, depth - 1, chunks, put, change)?;
+    let below = PutBelow {
+        put,
+        place,
+        depth: depth - 1,
+    };
+    let (ready, half) = put_child(keys, kids, chunks, below, change)?;
     lower_first(keys, place, ready.lower);
-    Ok(finish(keys, kids, place, depth, put.alloc, ready.room, half))
+    let split = ChildSplit {
+        place,
+        room: ready.room,
+        half,
+    };
+    Ok(finish(keys, kids, depth, split))
 }
 
 #[cycle(put)]
 fn put_child<C: Chunks, F: FnOnce(Option<Json>) -> Result<Update, Stop>>(
     keys: &mut NodeKeys,
     kids: &mut Vec<OwnChild>,
-    place: usize,
-    below: u64,
     chunks: &mut C,
-    put: Put<'_>,
+    here: PutBelow<'_>,
     change: Change<F>,
 ) -> Result<(PutBuffers, Option<Half>), PutRefused>
     requires places { AreAll (C.places chunks.old) (kids_places kids.old.items) }
-    requires within { place < length kids.old.items }
-    requires place { IsPlace put.key.now keys.old.texts place }
-    requires copies { put.copies + 1 + below < 2 ^ 64 }
-    requires tree { (c : Childs) → slice_get kids.old.items place ≡ Some c
-        → IsTree (child_rows (C.contents chunks.old) below c) × HasDepth below c }
+    requires within { here.place < length kids.old.items }
+    requires place { IsPlace here.put.key.now keys.old.texts here.place }
+    requires copies { here.put.copies + 1 + here.depth < 2 ^ 64 }
+    requires tree { (c : Childs) → slice_get kids.old.items here.place ≡ Some c
+        → IsTree (child_rows (C.contents chunks.old) here.depth c) × HasDepth here.depth c }
     requires callable { CanMake (λ f. F.IsAlwaysCallable f) change }
     ensures grown { Grows C.contents C.places chunks.old chunks.new }
-    ensures put { (c : Childs) → slice_get kids.old.items place ≡ Some c
+    ensures put { (c : Childs) → slice_get kids.old.items here.entry.place ≡ Some c
         → IfOk result (λ r. (v : Bytes) × Makes (λ f x r. F.post f x r) change
-        (value_in (child_rows (C.contents chunks.old) below c) put.entry.key.now) (Ok (Puts v))
-        × IsChildPut (C.contents chunks.new) (put.entry.copies + 1) below place
-        (slice_index_or keys.old.texts place []) put.entry.key.now v (child_rows (C.contents chunks.old) below c)
+        (value_in (child_rows (C.contents chunks.old) here.entry.depth c) here.entry.put.key.now) (Ok (Puts v))
+        × IsChildPut (C.contents chunks.new) (here.entry.put.copies + 1) here.entry.depth here.entry.place
+        (slice_index_or keys.old.texts here.entry.place []) here.entry.put.key.now v
+        (child_rows (C.contents chunks.old) here.entry.depth c)
         kids.old.items kids.new.items c r.1) }
-    ensures levels { (c : Childs) → slice_get kids.old.items place ≡ Some c
-        → IfOk result (λ r. ChildHalvesPut (C.contents chunks.new) below place kids.old.items kids.new.items c r.1) }
+    ensures levels { (c : Childs) → slice_get kids.old.items here.entry.place ≡ Some c
+        → IfOk result (λ r. ChildHalvesPut (C.contents chunks.new) here.entry.depth here.entry.place
+        kids.old.items kids.new.items c r.1) }
     ensures places { IfOk result (λ r. AreKept (C.places chunks.new) (kids_places kids.old.items)
         (kids_places kids.new.items ++ places_of (half_pieces r.1))) }
     ensures kept { vec_capacity kids.new ≡ vec_capacity kids.old }
     ensures texts { keys.new.texts ≡ keys.old.texts }
     ensures lowers { IfOk result (λ r. IsSome r.0.lower → 0 < keys.new.room) }
-    ensures lower { IfOk result (λ r. IsLower put.entry.key.now (slice_index_or keys.old.texts place []) r.0.lower) }
+    ensures lower { IfOk result (λ r. IsLower here.entry.put.key.now
+        (slice_index_or keys.old.texts here.entry.place []) r.0.lower) }
     ensures ready { IfOk result (λ r. IsSome r.1
-        → IsReady put.entry.copies keys.old.texts keys.new.room place put.entry.key.now r.0.room) }
+        → IsReady here.entry.put.copies keys.old.texts keys.new.room here.entry.place here.entry.put.key.now
+        r.0.room) }
     ensures err { OnErr result (kids.new.items ≡ kids.old.items) }
-    ensures unput { (c : Childs) → slice_get kids.old.items place ≡ Some c
+    ensures unput { (c : Childs) → slice_get kids.old.items here.entry.place ≡ Some c
         → IfErr result (IsUnput (λ made. Makes (λ f x r. F.post f x r) change
-        (value_in (child_rows (C.contents chunks.old) below c) put.entry.key.now) made) C.stops
-        (value_in (child_rows (C.contents chunks.old) below c) put.entry.key.now)) }
+        (value_in (child_rows (C.contents chunks.old) here.entry.depth c) here.entry.put.key.now) made) C.stops
+        (value_in (child_rows (C.contents chunks.old) here.entry.depth c) here.entry.put.key.now)) }
 {
+    let PutBelow {
+        put,
+        place,
+        depth: _,
+    } = here;
     match &mut kids[place] {
         OwnChild::Own(node) => return node.put_below(keys, place, chunks, put, change),
         OwnChild::Placed(at) => {
-            let (ready, node, half) = put_placed(keys, place, *at, chunks, put, change)?;
+            let (ready, node, half) = put_placed(keys, *at, chunks, here, change)?;
             kids[place] = OwnChild::Own(node);
             return Ok((ready, half));
         }
@@ -144,34 +178,40 @@ fn put_child<C: Chunks, F: FnOnce(Option<Json>) -> Result<Update, Stop>>(
 // Puts a row below a placed child of a chunk with these keys: own chunks are made on the way up.
 fn put_placed<C: Chunks, F: FnOnce(Option<Json>) -> Result<Update, Stop>>(
     keys: &mut NodeKeys,
-    place: usize,
     at: Ref,
     chunks: &mut C,
-    put: Put<'_>,
+    here: PutBelow<'_>,
     change: Change<F>,
 ) -> Result<(PutBuffers, Box<OwnNode>, Option<Half>), PutRefused>
     requires may { C.places chunks.old at }
     requires tree { IsTree (chunk_rows (C.contents chunks.old) (stamp_of at)) }
-    requires place { IsPlace put.key.now keys.old.texts place }
+    requires place { IsPlace here.put.key.now keys.old.texts here.place }
     requires copies { (d : ℕ) → chunk_depth (C.contents chunks.old) (stamp_of at) ≡ Some d
-        → put.copies + 1 + d < 2 ^ 64 }
+        → here.put.copies + 1 + d < 2 ^ 64 }
     requires callable { CanMake (λ f. F.IsAlwaysCallable f) change }
     ensures grown { Grows C.contents C.places chunks.old chunks.new }
     ensures put { (d : ℕ) → chunk_depth (C.contents chunks.old) (stamp_of at) ≡ Some d
         → IfOk result (λ r. (v : Bytes) × Makes (λ f x r. F.post f x r) change
-        (value_in (chunk_rows (C.contents chunks.old) (stamp_of at)) put.entry.key.now) (Ok (Puts v))
-        × (value_in (chunk_rows (C.contents chunks.old) (stamp_of at)) put.entry.key.now ≡ Some v → ⊥)
-        × IsMade (C.contents chunks.new) (C.places chunks.new) (put.entry.copies + 1) (stamp_of at) d
-        (rows_or (chunk_rows (C.contents chunks.old) (stamp_of at))) put.entry.key.now v r.1.value r.2) }
+        (value_in (chunk_rows (C.contents chunks.old) (stamp_of at)) here.entry.put.key.now) (Ok (Puts v))
+        × (value_in (chunk_rows (C.contents chunks.old) (stamp_of at)) here.entry.put.key.now ≡ Some v → ⊥)
+        × IsMade (C.contents chunks.new) (C.places chunks.new) (here.entry.put.copies + 1) (stamp_of at) d
+        (rows_or (chunk_rows (C.contents chunks.old) (stamp_of at))) here.entry.put.key.now v r.1.value r.2) }
     ensures texts { keys.new.texts ≡ keys.old.texts }
     ensures lowers { IfOk result (λ r. IsSome r.0.lower → 0 < keys.new.room) }
-    ensures lower { IfOk result (λ r. IsLower put.entry.key.now (slice_index_or keys.old.texts place []) r.0.lower) }
+    ensures lower { IfOk result (λ r. IsLower here.entry.put.key.now
+        (slice_index_or keys.old.texts here.entry.place []) r.0.lower) }
     ensures ready { IfOk result (λ r. IsSome r.2
-        → IsReady put.entry.copies keys.old.texts keys.new.room place put.entry.key.now r.0.room) }
+        → IsReady here.entry.put.copies keys.old.texts keys.new.room here.entry.place here.entry.put.key.now
+        r.0.room) }
     ensures unput { IfErr result (IsUnput (λ made. Makes (λ f x r. F.post f x r) change
-        (value_in (chunk_rows (C.contents chunks.old) (stamp_of at)) put.entry.key.now) made) C.stops
-        (value_in (chunk_rows (C.contents chunks.old) (stamp_of at)) put.entry.key.now)) }
+        (value_in (chunk_rows (C.contents chunks.old) (stamp_of at)) here.entry.put.key.now) made) C.stops
+        (value_in (chunk_rows (C.contents chunks.old) (stamp_of at)) here.entry.put.key.now)) }
 {
+    let PutBelow {
+        put,
+        place,
+        depth: _,
+    } = here;
     let reached = change_placed(at, chunks, put, change)?;
     taken_up(keys, place, put, reached)
 }
@@ -324,7 +364,11 @@ impl OwnNode {
                 return put_leaf(&mut self.keys, values, put, change);
             }
             Body::Inner(kids) => {
-                return put_inner(&mut self.keys, kids, self.depth, chunks, put, change);
+                let here = PutIn {
+                    put,
+                    depth: self.depth,
+                };
+                return put_inner(&mut self.keys, kids, chunks, here, change);
             }
         }
     }

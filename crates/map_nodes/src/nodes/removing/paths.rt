@@ -74,7 +74,6 @@ fn remove_child<C: Chunks>(
     kids: &mut Vec<OwnChild>,
     place: usize,
     below: u64,
-    alloc: Global,
     chunks: &mut C,
     key: &str,
 ) -> Result<(), Stop>
@@ -91,6 +90,7 @@ fn remove_child<C: Chunks>(
     ensures err { OnErr result (kids.new.items ≡ kids.old.items) }
     ensures stopped { IfErr result (λ s. (s ≡ NoMemory) ⊎ C.stops s) }
 {
+    let alloc = *kids.allocator();
     match &mut kids[place] {
         OwnChild::Own(node) => return node.remove(alloc, chunks, key),
         OwnChild::Placed(at) => {
@@ -108,7 +108,6 @@ pub(super) fn remove_at<C: Chunks>(
     keys: &mut NodeKeys,
     kids: &mut Vec<OwnChild>,
     depth: u64,
-    alloc: Global,
     chunks: &mut C,
     removal: Removal<'_>,
 ) -> Result<(), Stop>
@@ -131,6 +130,7 @@ pub(super) fn remove_at<C: Chunks>(
     ensures stopped { IfErr result (λ s. (s ≡ NoMemory) ⊎ C.stops s) }
 {
     let Removal { key, place, fate } = removal;
+    let alloc = *kids.allocator();
     match fate {
         ChildAfter::Leaves => {
             remove_entry(keys, kids, alloc, place)?;
@@ -138,7 +138,7 @@ pub(super) fn remove_at<C: Chunks>(
         }
         ChildAfter::Stays(first) => {
             make_ready(keys, alloc, &first)?;
-            remove_child(kids, place, depth - 1, alloc, chunks, key)?;
+            remove_child(kids, place, depth - 1, chunks, key)?;
             set_first(keys, place, first);
             return Ok(());
         }
@@ -172,14 +172,8 @@ impl OwnNode {
                 let texts = self.keys.as_slice();
                 let place = place_of(texts, key);
                 let fate = fate_of(chunks, &texts[place], &kids[place], key)?;
-                return remove_at(
-                    &mut self.keys,
-                    kids,
-                    self.depth,
-                    alloc,
-                    chunks,
-                    Removal { key, place, fate },
-                );
+                let removal = Removal { key, place, fate };
+                return remove_at(&mut self.keys, kids, self.depth, chunks, removal);
             }
         }
     }

@@ -177,7 +177,6 @@ fn remove_inner<C: Chunks>(
     keys: &mut NodeKeys,
     kids: &mut Vec<OwnChild>,
     depth: u64,
-    alloc: Global,
     chunks: &mut C,
     key: &str,
 ) -> Result<Option<NewRoot>, Stop>
@@ -202,14 +201,7 @@ fn remove_inner<C: Chunks>(
     let texts = keys.as_slice();
     let place = place_of(texts, key);
     let fate = fate_of(chunks, &texts[place], &kids[place], key)?;
-    remove_fated(
-        keys,
-        kids,
-        depth,
-        alloc,
-        chunks,
-        Removal { key, place, fate },
-    )
+    remove_fated(keys, kids, depth, chunks, Removal { key, place, fate })
 }
 
 // Removes a key below the child at the place, whose fate is known.
@@ -217,7 +209,6 @@ fn remove_fated<C: Chunks>(
     keys: &mut NodeKeys,
     kids: &mut Vec<OwnChild>,
     depth: u64,
-    alloc: Global,
     chunks: &mut C,
     removal: Removal<'_>,
 ) -> Result<Option<NewRoot>, Stop>
@@ -240,10 +231,11 @@ fn remove_fated<C: Chunks>(
     ensures stopped { IfErr result (λ s. (s ≡ NoMemory) ⊎ C.stops s) }
 {
     if gives_way(&removal.fate, kids.len()) {
+        let alloc = *kids.allocator();
         let heir = heir(kids, removal.place, alloc, chunks)?;
         return Ok(Some(heir));
     }
-    remove_at(keys, kids, depth, alloc, chunks, removal)?;
+    remove_at(keys, kids, depth, chunks, removal)?;
     Ok(None)
 }
 
@@ -297,7 +289,7 @@ impl OwnNode {
                 return remove_in_root(&mut self.keys, values, alloc, key);
             }
             Body::Inner(kids) => {
-                match remove_inner(&mut self.keys, kids, self.depth, alloc, chunks, key)? {
+                match remove_inner(&mut self.keys, kids, self.depth, chunks, key)? {
                     None => return Ok(None),
                     Some(NewRoot::Placed(at)) => return Ok(Some(at)),
                     Some(NewRoot::Own(node)) => {

@@ -278,6 +278,13 @@ fn step_up(
     }
 }
 
+/// A placed chunk that is shown.
+#[derive(Clone, Copy)]
+struct ShownChunk<'a> {
+    at: Ref,
+    chunk: &'a Chunk<Ref>,
+}
+
 /// Goes down from a placed chunk to a key, lets the change see the value there (none where the key isn't there), and
 /// makes new chunks of those on the way where it makes another value of it. Stops for want of memory, or as the store
 /// or the change does.
@@ -304,7 +311,11 @@ pub(crate) fn change_at<C: Chunks, F: FnOnce(Option<Json>) -> Result<Update, Sto
         (slice_cmp nat_cmp) down.now.key.now (rows_or (chunk_rows (C.contents chunks.old) (stamp_of at)))) (Err e)) }
 {
     let held = chunks.show(at)?;
-    let reached = change_in(chunks, at, held.chunk(), down, laying, change);
+    let here = ShownChunk {
+        at,
+        chunk: held.chunk(),
+    };
+    let reached = change_in(chunks, here, down, laying, change);
     chunks.leave(held);
     reached
 }
@@ -313,28 +324,29 @@ pub(crate) fn change_at<C: Chunks, F: FnOnce(Option<Json>) -> Result<Update, Sto
 #[cycle(change)]
 fn change_in<C: Chunks, F: FnOnce(Option<Json>) -> Result<Update, Stop>>(
     chunks: &mut C,
-    at: Ref,
-    chunk: &Chunk<Ref>,
+    here: ShownChunk<'_>,
     down: &Down<'_>,
     laying: &mut Laying,
     change: Change<F>,
 ) -> Result<Reached, Stop>
-    requires known { IsTree (chunk_rows (C.contents chunks.old) (stamp_of at)) }
-    requires content { slice_get (C.contents chunks.old) (stamp_of at) ≡ Some (chunk_content chunk.now) }
-    requires children { AreAll (C.places chunks.old) (chunk_children chunk.now) }
-    requires copies { (d : ℕ) → chunk_depth (C.contents chunks.old) (stamp_of at) ≡ Some d
+    requires known { IsTree (chunk_rows (C.contents chunks.old) (stamp_of here.at)) }
+    requires content { slice_get (C.contents chunks.old) (stamp_of here.at) ≡ Some (chunk_content here.chunk.now) }
+    requires children { AreAll (C.places chunks.old) (chunk_children here.chunk.now) }
+    requires copies { (d : ℕ) → chunk_depth (C.contents chunks.old) (stamp_of here.at) ≡ Some d
         → down.now.copies + d < 2 ^ 64 }
     requires callable { CanMake (λ f. F.IsAlwaysCallable f) change }
     ensures grown { Grows C.contents C.places chunks.old chunks.new }
     ensures reached { IfOk result (λ r. (u : Updates) × Makes (λ f x r. F.post f x r) change (finite.find
-        (slice_cmp nat_cmp) down.now.key.now (rows_or (chunk_rows (C.contents chunks.old) (stamp_of at)))) (Ok u)
-        × IsReached (C.contents chunks.new) (C.places chunks.new) down.now.copies down.now.as_trail (stamp_of at)
-        (chunk_depth (C.contents chunks.old) (stamp_of at))
-        (rows_or (chunk_rows (C.contents chunks.old) (stamp_of at))) down.now.key.now u r laying.new) }
+        (slice_cmp nat_cmp) down.now.key.now (rows_or (chunk_rows (C.contents chunks.old) (stamp_of here.entry.at))))
+        (Ok u) × IsReached (C.contents chunks.new) (C.places chunks.new) down.now.copies down.now.as_trail
+        (stamp_of here.entry.at)
+        (chunk_depth (C.contents chunks.old) (stamp_of here.entry.at))
+        (rows_or (chunk_rows (C.contents chunks.old) (stamp_of here.entry.at))) down.now.key.now u r laying.new) }
     ensures stopped { IfErr result (λ e. (e ≡ NoMemory) ⊎ C.stops e ⊎ Makes (λ f x r. F.post f x r) change (finite.find
-        (slice_cmp nat_cmp) down.now.key.now (rows_or (chunk_rows (C.contents chunks.old) (stamp_of at)))) (Err e)) }
+        (slice_cmp nat_cmp) down.now.key.now (rows_or (chunk_rows (C.contents chunks.old) (stamp_of here.entry.at))))
+        (Err e)) }
 {
-    match chunk {
+    match here.chunk {
         Chunk::Leaf(leaf) => change_leaf(leaf, down, laying, change),
         Chunk::Inner(inner) => {
             let place = place_for(inner.firsts().as_slice(), down.searched);

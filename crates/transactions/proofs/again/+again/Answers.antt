@@ -12,6 +12,7 @@ use Rattle.group_history.proofs.Pairs.{paired-parts}
 use Rattle.map_chunks.specs.Inside.Scanning.{CanTake}
 use Rattle.map_chunks.specs.Places.{AreAll}
 use Rattle.map_chunks.specs.Scanning.{Took, is_over, taken}
+use Rattle.map_chunks.specs.Search.{IsPlace}
 use Rattle.map_chunks.specs.Shown.{IsTree, chunk_rows, rows_or}
 use Rattle.map_chunks.proofs.AnswerLemmas.{on_ok}
 use Rattle.map_chunks.proofs.CoverLemmas.{below}
@@ -54,8 +55,10 @@ take_children-loop-place-init g t c =
       more = λ before all pre up spans tree.
           let n = refs_known before c.args.below.firsts.now c.args.below.children.now tree in
           pairs_begun (ref_rows before) c.args.below.firsts.now c.args.below.children.now c.place_of-place.result n.rows
-          c.args.asked.scan.now c.args.asked.low.now (HasFound c.args.asked.scan.now all) c.args.again.now
-          c.args.again.now.room c.requires.children n.is n.order c.requires.low c.place_of-place.ensures;
+          c.args.asked.scan.now c.lowest.result.now (HasFound c.args.asked.scan.now all) c.args.again.now
+          c.args.again.now.room c.requires.children n.is n.order c.lowest.ensures
+          (subst (λ w. IsPlace w c.args.below.firsts.now c.place_of-place.result) c.as_str.ensures
+          c.place_of-place.ensures);
     }
 
 pub take_children-returns-then-is_over-clause-more : goal.take_children-returns-then-is_over-clause-more
@@ -86,7 +89,7 @@ take_children-take_child-requires g t c κs ws =
     let place = c.loop-place.invariant.grown.1 at
     (c.requires.places at (Contains-get_or c.args.below.children.now c.loop-place.place (record { bits = 0 })
     (omega (arith, c.requires.children, c.loop-place-test.true)))) in
-    (omega (arith, u.low, c.decreases), (ws.0, (ws.1.0, (ws.1.1, (place, (u.tree, c.requires.low))))))
+    (omega (arith, u.low, c.decreases), (ws.0, (ws.1.0, (ws.1.1, (place, u.tree)))))
 
 pub take_children-loop-place-preserved : goal.take_children-loop-place-preserved
 take_children-loop-place-preserved g t c =
@@ -165,10 +168,7 @@ take_chunk-take_children-requires g t c κs ws =
                 c.as_slice.ensures.order.1,
                 (
                   omega (arith, ap length keys, ap length children, length-keys_of kids, length-values_of kids),
-                  (
-                    subst IsTree (sym b.rows) tree,
-                    c.requires.low,
-                  ),
+                  subst IsTree (sym b.rows) tree,
                 ),
               ),
             ),
@@ -216,10 +216,7 @@ take_shown-take_chunk-answer-requires g t c κs ws =
                 subst (λ (ch : Chunk Ref). slice_get q k ≡ Some (chunk_content ch)) (sym c.chunk.ensures)
                     c.in_ok-held.ensures.content,
               ),
-              (
-                subst IsTree (sym (rows_later p q k c.show.ensures.grown.0 tree)) tree,
-                c.requires.low,
-              ),
+              subst IsTree (sym (rows_later p q k c.show.ensures.grown.0 tree)) tree,
             ),
           ),
         ),

@@ -16,7 +16,7 @@ returns-clause-found g c all up spans =
     let told = g.B.PreviousRows.rows in
     let is = c.requires.before in
     let known = subst (λ (rows : Rows). AreSpans scan all rows c.as_slice.result.now) is
-    (subst (AreSpans scan all c.args.before.now) (sym c.as_slice.ensures) spans) in
+    (subst (AreSpans scan all c.args.before.rows.now) (sym c.as_slice.ensures) spans) in
     let rows = rows_or (chunk_rows now (stamp_of c.args.at)) in
     let none = found_none scan all scan.limit c.new-again.result c.new-again.ensures in
     let took = (c.in_ok-take_child.ensures.more now all (prefix_self now) up known c.requires.tree).rows [] none in

@@ -13,7 +13,7 @@ returns-in-Laid g c u reached =
     let p = g.C.Chunks.contents c.args.chunks.now in
     let may = g.C.Chunks.places c.args.chunks.now in
     let k = stamp_of c.args.at in
-    let key = c.args.key.now in
+    let key = c.args.down.now.key.now in
     let rows = rows_or (chunk_rows p k) in
     let l = c.args.laying in
     let h = subst (λ w. IsReached p may 1 true k (chunk_depth p k) rows key u w l) c.in-Laid.is reached in
@@ -32,7 +32,7 @@ of-requires g c =
     let p = g.C.Chunks.contents c.args.chunks.now in
     let k = stamp_of c.args.at in
     let h = subst (λ w. IsReached p (g.C.Chunks.places c.args.chunks.now) 1 true k (chunk_depth p k)
-    (rows_or (chunk_rows p k)) c.args.key.now c.requires.reached.0 w c.args.laying) c.in-Laid.is
+    (rows_or (chunk_rows p k)) c.args.down.now.key.now c.requires.reached.0 w c.args.laying) c.in-Laid.is
     c.requires.reached.1 in
     (h.4.2.0, h.4.2.1, h.4.2.2)
 
@@ -41,10 +41,10 @@ topped-requires-clause-order g c =
     let p = g.C.Chunks.contents c.args.chunks.now in
     let may = g.C.Chunks.places c.args.chunks.now in
     let k = stamp_of c.args.at in
-    let h = subst (λ w. IsReached p may 1 true k (chunk_depth p k) (rows_or (chunk_rows p k)) c.args.key.now
+    let h = subst (λ w. IsReached p may 1 true k (chunk_depth p k) (rows_or (chunk_rows p k)) c.args.down.now.key.now
     c.requires.reached.0 w c.args.laying) c.in-Grown.is c.requires.reached.1 in (
       p,
-      made_order p may 1 k h.3.0 c.args.key.now h.0 (chunk_rows p k) c.in-Grown.node.value c.in-Grown.half
+      made_order p may 1 k h.3.0 c.args.down.now.key.now h.0 (chunk_rows p k) c.in-Grown.node.value c.in-Grown.half
           c.requires.tree h.3.3,
     )
 
@@ -53,7 +53,7 @@ returns-in_ok-root-in-Grown g c u reached =
     let p = g.C.Chunks.contents c.args.chunks.now in
     let may = g.C.Chunks.places c.args.chunks.now in
     let k = stamp_of c.args.at in
-    let key = c.args.key.now in
+    let key = c.args.down.now.key.now in
     let rows = rows_or (chunk_rows p k) in
     let n = c.in-Grown.node.value in
     let half = c.in-Grown.half in

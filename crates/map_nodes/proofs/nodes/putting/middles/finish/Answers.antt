@@ -20,8 +20,8 @@ pub returns-in_default-clause-shape : goal.returns-in_default-clause-shape
 returns-in_default-clause-shape c =
     let keys = c.args.keys.now.texts in
     let kids = c.args.kids.now.items in
-    let es : Kids = with_half c.args.place c.args.half (paired keys kids) in
-    let e : es ≡ paired keys kids = ap (λ h. with_half c.args.place h (paired keys kids)) c.in_default.is in
+    let es : Kids = with_half c.args.split.place c.args.split.half (paired keys kids) in
+    let e : es ≡ paired keys kids = ap (λ h. with_half c.args.split.place h (paired keys kids)) c.in_default.is in
     let n = ap length e ∙ length-paired keys kids c.requires.fits.pairs in
     finished_alone c.args.depth es keys kids (sym e, c.requires.fits.pairs) c.requires.fits.all c.requires.fits.order
     (omega (arith, n, c.requires.fits.few)) (omega (arith, n, c.requires.fits.within))
@@ -30,15 +30,15 @@ pub returns-in_default-insert_entry-clause-shape : goal.returns-in_default-inser
 returns-in_default-insert_entry-clause-shape c =
     let keys = c.args.keys.now.texts in
     let kids = c.args.kids.now.items in
-    let es : Kids = with_half c.args.place c.args.half (paired keys kids) in
+    let es : Kids = with_half c.args.split.place c.args.split.half (paired keys kids) in
     let hf : IsHalf (c.requires.fits.split.0 + 1) (c.args.depth - 1) (Some c.in-Some.half) = subst
     (IsHalf (c.requires.fits.split.0 + 1) (c.args.depth - 1)) c.in-Some.is c.requires.fits.split.1 in
-    let p = putting keys kids c.args.place c.requires.fits.split.0
+    let p = putting keys kids c.args.split.place c.requires.fits.split.0
     (c.args.depth - 1) c.in-Some.half c.in-Some-pop.first c.pop.new.self.items c.requires.fits.pairs
     c.requires.fits.within hf c.in-Some-pop.ensures.items in
-    let back : with_half c.args.place (Some c.in-Some.half) (paired keys kids)
-    ≡ es = ap (λ h. with_half c.args.place h (paired keys kids)) (sym c.in-Some.is) in
-    let q : insert (paired keys kids) (c.args.place + 1) (c.in-Some-pop.first, Own c.in-Some.half.node)
+    let back : with_half c.args.split.place (Some c.in-Some.half) (paired keys kids)
+    ≡ es = ap (λ h. with_half c.args.split.place h (paired keys kids)) (sym c.in-Some.is) in
+    let q : insert (paired keys kids) (c.args.split.place + 1) (c.in-Some-pop.first, Own c.in-Some.half.node)
     ≡ es = p.es_is ∙ back in
     let h = subst (λ (w : Kids). Parted w c.insert_entry.new.keys.texts c.insert_entry.new.entries.items None) q
     c.in_default-insert_entry.ensures in
@@ -49,15 +49,15 @@ pub invariant_of-upper : goal.invariant_of-upper
 invariant_of-upper c =
     let keys = c.args.keys.now.texts in
     let kids = c.args.kids.now.items in
-    let es : Kids = with_half c.args.place c.args.half (paired keys kids) in
+    let es : Kids = with_half c.args.split.place c.args.split.half (paired keys kids) in
     let hf : IsHalf (c.requires.fits.split.0 + 1) (c.args.depth - 1) (Some c.in-Some.half) = subst
     (IsHalf (c.requires.fits.split.0 + 1) (c.args.depth - 1)) c.in-Some.is c.requires.fits.split.1 in
-    let p = putting keys kids c.args.place c.requires.fits.split.0
+    let p = putting keys kids c.args.split.place c.requires.fits.split.0
     (c.args.depth - 1) c.in-Some.half c.in-Some-pop.first c.pop.new.self.items c.requires.fits.pairs
     c.requires.fits.within hf c.in-Some-pop.ensures.items in
-    let back : with_half c.args.place (Some c.in-Some.half) (paired keys kids)
-    ≡ es = ap (λ h. with_half c.args.place h (paired keys kids)) (sym c.in-Some.is) in
-    let q : insert (paired keys kids) (c.args.place + 1) (c.in-Some-pop.first, Own c.in-Some.half.node)
+    let back : with_half c.args.split.place (Some c.in-Some.half) (paired keys kids)
+    ≡ es = ap (λ h. with_half c.args.split.place h (paired keys kids)) (sym c.in-Some.is) in
+    let q : insert (paired keys kids) (c.args.split.place + 1) (c.in-Some-pop.first, Own c.in-Some.half.node)
     ≡ es = p.es_is ∙ back in
     let h = subst (λ (w : Kids). Parted w c.insert_entry.new.keys.texts c.insert_entry.new.entries.items
     (Some (c.in-Some-insert_entry.upper_keys.texts, c.in-Some-insert_entry.upper.items))) q
@@ -71,15 +71,15 @@ pub returns-clause-shape : goal.returns-clause-shape
 returns-clause-shape c =
     let keys = c.args.keys.now.texts in
     let kids = c.args.kids.now.items in
-    let es : Kids = with_half c.args.place c.args.half (paired keys kids) in
+    let es : Kids = with_half c.args.split.place c.args.split.half (paired keys kids) in
     let hf : IsHalf (c.requires.fits.split.0 + 1) (c.args.depth - 1) (Some c.in-Some.half) = subst
     (IsHalf (c.requires.fits.split.0 + 1) (c.args.depth - 1)) c.in-Some.is c.requires.fits.split.1 in
-    let p = putting keys kids c.args.place c.requires.fits.split.0
+    let p = putting keys kids c.args.split.place c.requires.fits.split.0
     (c.args.depth - 1) c.in-Some.half c.in-Some-pop.first c.pop.new.self.items c.requires.fits.pairs
     c.requires.fits.within hf c.in-Some-pop.ensures.items in
-    let back : with_half c.args.place (Some c.in-Some.half) (paired keys kids)
-    ≡ es = ap (λ h. with_half c.args.place h (paired keys kids)) (sym c.in-Some.is) in
-    let q : insert (paired keys kids) (c.args.place + 1) (c.in-Some-pop.first, Own c.in-Some.half.node)
+    let back : with_half c.args.split.place (Some c.in-Some.half) (paired keys kids)
+    ≡ es = ap (λ h. with_half c.args.split.place h (paired keys kids)) (sym c.in-Some.is) in
+    let q : insert (paired keys kids) (c.args.split.place + 1) (c.in-Some-pop.first, Own c.in-Some.half.node)
     ≡ es = p.es_is ∙ back in
     let h = subst (λ (w : Kids). Parted w c.insert_entry.new.keys.texts c.insert_entry.new.entries.items
     (Some (c.in-Some-insert_entry.upper_keys.texts, c.in-Some-insert_entry.upper.items))) q
@@ -100,15 +100,15 @@ pub returns-clause-half : goal.returns-clause-half
 returns-clause-half c copies is firsts =
     let keys = c.args.keys.now.texts in
     let kids = c.args.kids.now.items in
-    let es : Kids = with_half c.args.place c.args.half (paired keys kids) in
+    let es : Kids = with_half c.args.split.place c.args.split.half (paired keys kids) in
     let hf : IsHalf (copies + 1) (c.args.depth - 1) (Some c.in-Some.half) = subst
     (IsHalf (copies + 1) (c.args.depth - 1)) c.in-Some.is is in
-    let p = putting keys kids c.args.place copies
+    let p = putting keys kids c.args.split.place copies
     (c.args.depth - 1) c.in-Some.half c.in-Some-pop.first c.pop.new.self.items c.requires.fits.pairs
     c.requires.fits.within hf c.in-Some-pop.ensures.items in
-    let back : with_half c.args.place (Some c.in-Some.half) (paired keys kids)
-    ≡ es = ap (λ h. with_half c.args.place h (paired keys kids)) (sym c.in-Some.is) in
-    let q : insert (paired keys kids) (c.args.place + 1) (c.in-Some-pop.first, Own c.in-Some.half.node)
+    let back : with_half c.args.split.place (Some c.in-Some.half) (paired keys kids)
+    ≡ es = ap (λ h. with_half c.args.split.place h (paired keys kids)) (sym c.in-Some.is) in
+    let q : insert (paired keys kids) (c.args.split.place + 1) (c.in-Some-pop.first, Own c.in-Some.half.node)
     ≡ es = p.es_is ∙ back in
     let h = subst (λ (w : Kids). Parted w c.insert_entry.new.keys.texts c.insert_entry.new.entries.items
     (Some (c.in-Some-insert_entry.upper_keys.texts, c.in-Some-insert_entry.upper.items))) q
@@ -116,18 +116,19 @@ returns-clause-half c copies is firsts =
     let b = kid_halves (c.args.depth - 1) es c.insert_entry.new.keys.texts c.insert_entry.new.entries.items
     c.in-Some-insert_entry.upper_keys.texts c.in-Some-insert_entry.upper.items h c.requires.fits.all
     c.requires.fits.order in
-    let n : get_or (keys_of es) 8 [] ≡ get_or (insert keys (c.args.place + 1) c.in-Some-pop.first) 8 [] = ap
+    let n : get_or (keys_of es) 8 [] ≡ get_or (insert keys (c.args.split.place + 1) c.in-Some-pop.first) 8 [] = ap
     (λ w. get_or (keys_of w) 8 []) (sym back) ∙ p.ninth in
     let full : length keys ≡ 16 = omega (arith, h.2, p.whole, ap length back) in (
       ap (λ (s : Seen). s.depth) c.housed.ensures,
       (
         get_or (keys_of es) 8 [],
         subst (λ (s : Seen). HeadIs (get_or (keys_of es) 8 []) s.pieces) (sym c.housed.ensures) b.head,
-        chosen_are c.args.place copies c.in-Some-pop.first (get_or (keys_of es) 8 [])
-            (get_or (insert keys (c.args.place + 1) c.in-Some-pop.first) 8 []) c.pop.new.self.items
+        chosen_are c.args.split.place copies c.in-Some-pop.first (get_or (keys_of es) 8 [])
+            (get_or (insert keys (c.args.split.place + 1) c.in-Some-pop.first) 8 []) c.pop.new.self.items
             c.opened-firsts.result.firsts.items c.chosen.result.items
             n p.given_are p.at_eight c.chosen.ensures.at c.chosen.ensures.other
-            (λ z. ninth_opened copies keys (c.args.place + 1) c.in-Some-pop.first c.args.room c.opened-firsts.result
+            (λ z. ninth_opened copies keys (c.args.split.place + 1) c.in-Some-pop.first c.args.split.room
+            c.opened-firsts.result
             (c.requires.room (subst IsSome (sym c.in-Some.is) refl)) c.opened-firsts.ensures
             (firsts (subst IsSome (sym c.in-Some.is) refl) c.in-Some-pop.first z) full c.in-Some-pop.first (λ y. refl)),
       ),
@@ -137,8 +138,8 @@ pub returns-in_default-clause-parted : goal.returns-in_default-clause-parted
 returns-in_default-clause-parted c =
     let keys = c.args.keys.now.texts in
     let kids = c.args.kids.now.items in
-    let e : paired keys kids ≡ with_half c.args.place c.args.half (paired keys kids) =
-    ap (λ h. with_half c.args.place h (paired keys kids)) (sym c.in_default.is) in (
+    let e : paired keys kids ≡ with_half c.args.split.place c.args.split.half (paired keys kids) =
+    ap (λ h. with_half c.args.split.place h (paired keys kids)) (sym c.in_default.is) in (
       sym (keys_of-paired keys kids c.requires.fits.pairs) ∙ ap keys_of e,
       sym (values_of-paired keys kids c.requires.fits.pairs) ∙ ap values_of e,
     )
@@ -147,15 +148,15 @@ pub returns-in_default-insert_entry-clause-parted : goal.returns-in_default-inse
 returns-in_default-insert_entry-clause-parted c =
     let keys = c.args.keys.now.texts in
     let kids = c.args.kids.now.items in
-    let es : Kids = with_half c.args.place c.args.half (paired keys kids) in
+    let es : Kids = with_half c.args.split.place c.args.split.half (paired keys kids) in
     let hf : IsHalf (c.requires.fits.split.0 + 1) (c.args.depth - 1) (Some c.in-Some.half) = subst
     (IsHalf (c.requires.fits.split.0 + 1) (c.args.depth - 1)) c.in-Some.is c.requires.fits.split.1 in
-    let p = putting keys kids c.args.place c.requires.fits.split.0
+    let p = putting keys kids c.args.split.place c.requires.fits.split.0
     (c.args.depth - 1) c.in-Some.half c.in-Some-pop.first c.pop.new.self.items c.requires.fits.pairs
     c.requires.fits.within hf c.in-Some-pop.ensures.items in
-    let back : with_half c.args.place (Some c.in-Some.half) (paired keys kids)
-    ≡ es = ap (λ h. with_half c.args.place h (paired keys kids)) (sym c.in-Some.is) in
-    let q : insert (paired keys kids) (c.args.place + 1) (c.in-Some-pop.first, Own c.in-Some.half.node)
+    let back : with_half c.args.split.place (Some c.in-Some.half) (paired keys kids)
+    ≡ es = ap (λ h. with_half c.args.split.place h (paired keys kids)) (sym c.in-Some.is) in
+    let q : insert (paired keys kids) (c.args.split.place + 1) (c.in-Some-pop.first, Own c.in-Some.half.node)
     ≡ es = p.es_is ∙ back in
     let h = subst (λ (w : Kids). Parted w c.insert_entry.new.keys.texts c.insert_entry.new.entries.items None) q
     c.in_default-insert_entry.ensures in (
@@ -167,15 +168,15 @@ pub returns-clause-parted : goal.returns-clause-parted
 returns-clause-parted c =
     let keys = c.args.keys.now.texts in
     let kids = c.args.kids.now.items in
-    let es : Kids = with_half c.args.place c.args.half (paired keys kids) in
+    let es : Kids = with_half c.args.split.place c.args.split.half (paired keys kids) in
     let hf : IsHalf (c.requires.fits.split.0 + 1) (c.args.depth - 1) (Some c.in-Some.half) = subst
     (IsHalf (c.requires.fits.split.0 + 1) (c.args.depth - 1)) c.in-Some.is c.requires.fits.split.1 in
-    let p = putting keys kids c.args.place c.requires.fits.split.0
+    let p = putting keys kids c.args.split.place c.requires.fits.split.0
     (c.args.depth - 1) c.in-Some.half c.in-Some-pop.first c.pop.new.self.items c.requires.fits.pairs
     c.requires.fits.within hf c.in-Some-pop.ensures.items in
-    let back : with_half c.args.place (Some c.in-Some.half) (paired keys kids)
-    ≡ es = ap (λ h. with_half c.args.place h (paired keys kids)) (sym c.in-Some.is) in
-    let q : insert (paired keys kids) (c.args.place + 1) (c.in-Some-pop.first, Own c.in-Some.half.node)
+    let back : with_half c.args.split.place (Some c.in-Some.half) (paired keys kids)
+    ≡ es = ap (λ h. with_half c.args.split.place h (paired keys kids)) (sym c.in-Some.is) in
+    let q : insert (paired keys kids) (c.args.split.place + 1) (c.in-Some-pop.first, Own c.in-Some.half.node)
     ≡ es = p.es_is ∙ back in
     let h = subst (λ (w : Kids). Parted w c.insert_entry.new.keys.texts c.insert_entry.new.entries.items
     (Some (c.in-Some-insert_entry.upper_keys.texts, c.in-Some-insert_entry.upper.items))) q
@@ -197,15 +198,15 @@ pub returns-in_default-insert_entry-clause-entries : goal.returns-in_default-ins
 returns-in_default-insert_entry-clause-entries c =
     let keys = c.args.keys.now.texts in
     let kids = c.args.kids.now.items in
-    let es : Kids = with_half c.args.place c.args.half (paired keys kids) in
+    let es : Kids = with_half c.args.split.place c.args.split.half (paired keys kids) in
     let hf : IsHalf (c.requires.fits.split.0 + 1) (c.args.depth - 1) (Some c.in-Some.half) = subst
     (IsHalf (c.requires.fits.split.0 + 1) (c.args.depth - 1)) c.in-Some.is c.requires.fits.split.1 in
-    let p = putting keys kids c.args.place c.requires.fits.split.0
+    let p = putting keys kids c.args.split.place c.requires.fits.split.0
     (c.args.depth - 1) c.in-Some.half c.in-Some-pop.first c.pop.new.self.items c.requires.fits.pairs
     c.requires.fits.within hf c.in-Some-pop.ensures.items in
-    let back : with_half c.args.place (Some c.in-Some.half) (paired keys kids)
-    ≡ es = ap (λ h. with_half c.args.place h (paired keys kids)) (sym c.in-Some.is) in
-    let q : insert (paired keys kids) (c.args.place + 1) (c.in-Some-pop.first, Own c.in-Some.half.node)
+    let back : with_half c.args.split.place (Some c.in-Some.half) (paired keys kids)
+    ≡ es = ap (λ h. with_half c.args.split.place h (paired keys kids)) (sym c.in-Some.is) in
+    let q : insert (paired keys kids) (c.args.split.place + 1) (c.in-Some-pop.first, Own c.in-Some.half.node)
     ≡ es = p.es_is ∙ back in
     let h = subst (λ (w : Kids). Parted w c.insert_entry.new.keys.texts c.insert_entry.new.entries.items None) q
     c.in_default-insert_entry.ensures in
@@ -216,15 +217,15 @@ pub returns-clause-entries : goal.returns-clause-entries
 returns-clause-entries c =
     let keys = c.args.keys.now.texts in
     let kids = c.args.kids.now.items in
-    let es : Kids = with_half c.args.place c.args.half (paired keys kids) in
+    let es : Kids = with_half c.args.split.place c.args.split.half (paired keys kids) in
     let hf : IsHalf (c.requires.fits.split.0 + 1) (c.args.depth - 1) (Some c.in-Some.half) = subst
     (IsHalf (c.requires.fits.split.0 + 1) (c.args.depth - 1)) c.in-Some.is c.requires.fits.split.1 in
-    let p = putting keys kids c.args.place c.requires.fits.split.0
+    let p = putting keys kids c.args.split.place c.requires.fits.split.0
     (c.args.depth - 1) c.in-Some.half c.in-Some-pop.first c.pop.new.self.items c.requires.fits.pairs
     c.requires.fits.within hf c.in-Some-pop.ensures.items in
-    let back : with_half c.args.place (Some c.in-Some.half) (paired keys kids)
-    ≡ es = ap (λ h. with_half c.args.place h (paired keys kids)) (sym c.in-Some.is) in
-    let q : insert (paired keys kids) (c.args.place + 1) (c.in-Some-pop.first, Own c.in-Some.half.node)
+    let back : with_half c.args.split.place (Some c.in-Some.half) (paired keys kids)
+    ≡ es = ap (λ h. with_half c.args.split.place h (paired keys kids)) (sym c.in-Some.is) in
+    let q : insert (paired keys kids) (c.args.split.place + 1) (c.in-Some-pop.first, Own c.in-Some.half.node)
     ≡ es = p.es_is ∙ back in
     let h = subst (λ (w : Kids). Parted w c.insert_entry.new.keys.texts c.insert_entry.new.entries.items
     (Some (c.in-Some-insert_entry.upper_keys.texts, c.in-Some-insert_entry.upper.items))) q
@@ -238,20 +239,20 @@ pub housed-requires : goal.housed-requires
 housed-requires c =
     let keys = c.args.keys.now.texts in
     let kids = c.args.kids.now.items in
-    let es : Kids = with_half c.args.place c.args.half (paired keys kids) in
+    let es : Kids = with_half c.args.split.place c.args.split.half (paired keys kids) in
     let hf : IsHalf (c.requires.fits.split.0 + 1) (c.args.depth - 1) (Some c.in-Some.half) = subst
     (IsHalf (c.requires.fits.split.0 + 1) (c.args.depth - 1)) c.in-Some.is c.requires.fits.split.1 in
-    let p = putting keys kids c.args.place c.requires.fits.split.0
+    let p = putting keys kids c.args.split.place c.requires.fits.split.0
     (c.args.depth - 1) c.in-Some.half c.in-Some-pop.first c.pop.new.self.items c.requires.fits.pairs
     c.requires.fits.within hf c.in-Some-pop.ensures.items in
-    let back : with_half c.args.place (Some c.in-Some.half) (paired keys kids)
-    ≡ es = ap (λ h. with_half c.args.place h (paired keys kids)) (sym c.in-Some.is) in
-    let q : insert (paired keys kids) (c.args.place + 1) (c.in-Some-pop.first, Own c.in-Some.half.node)
+    let back : with_half c.args.split.place (Some c.in-Some.half) (paired keys kids)
+    ≡ es = ap (λ h. with_half c.args.split.place h (paired keys kids)) (sym c.in-Some.is) in
+    let q : insert (paired keys kids) (c.args.split.place + 1) (c.in-Some-pop.first, Own c.in-Some.half.node)
     ≡ es = p.es_is ∙ back in
     let h = subst (λ (w : Kids). Parted w c.insert_entry.new.keys.texts c.insert_entry.new.entries.items
     (Some (c.in-Some-insert_entry.upper_keys.texts, c.in-Some-insert_entry.upper.items))) q
     c.in-Some-insert_entry.ensures in
-    (room_opened (length keys) c.args.room c.opened-firsts.result
+    (room_opened (length keys) c.args.split.room c.opened-firsts.result
     (c.requires.room (subst IsSome (sym c.in-Some.is) refl))
     c.opened-firsts.ensures).home (omega (arith, h.2, p.whole, ap length back))
 
@@ -270,15 +271,15 @@ insert_entry-requires-clause-room c =
 
 pub insert_entry-requires-clause-spare_keys : goal.insert_entry-requires-clause-spare_keys
 insert_entry-requires-clause-spare_keys c =
-    (room_opened (length c.args.keys.now.texts) c.args.room c.opened-firsts.result
+    (room_opened (length c.args.keys.now.texts) c.args.split.room c.opened-firsts.result
     (c.requires.room (subst IsSome (sym c.in-Some.is) refl)) c.opened-firsts.ensures).empty.0
 
 pub insert_entry-requires-clause-spare_entries : goal.insert_entry-requires-clause-spare_entries
 insert_entry-requires-clause-spare_entries c =
-    (room_opened (length c.args.keys.now.texts) c.args.room c.opened-firsts.result
+    (room_opened (length c.args.keys.now.texts) c.args.split.room c.opened-firsts.result
     (c.requires.room (subst IsSome (sym c.in-Some.is) refl)) c.opened-firsts.ensures).empty.1
 
 pub insert_entry-requires-clause-spare_room : goal.insert_entry-requires-clause-spare_room
 insert_entry-requires-clause-spare_room c =
-    (room_opened (length c.args.keys.now.texts) c.args.room c.opened-firsts.result
+    (room_opened (length c.args.keys.now.texts) c.args.split.room c.opened-firsts.result
     (c.requires.room (subst IsSome (sym c.in-Some.is) refl)) c.opened-firsts.ensures).spare

@@ -93,9 +93,10 @@ pub change_in-place_for-place-requires-clause-filled : goal.change_in-place_for-
 change_in-place_for-place-requires-clause-filled g t c =
     let q = g.C.Chunks.contents c.args.chunks.now in
     let kids = c.in-Inner.inner in
-    let content : slice_get q (stamp_of c.args.at) ≡ Some (chunk_content (chunked.Inner kids)) = c.requires.content ∙ ap
+    let content : slice_get q (stamp_of c.args.here.at) ≡ Some (chunk_content (chunked.Inner kids)) =
+    c.requires.content ∙ ap
     (λ w. Some (chunk_content w)) c.in-Inner.is in
-    let full = filled q (stamp_of c.args.at) kids c.requires.known content in
+    let full = filled q (stamp_of c.args.here.at) kids c.requires.known content in
     omega (
       arith,
       full,
@@ -110,12 +111,13 @@ change_in-below-deeper-requires g t c =
     let key = c.args.down.now.key.now in
     let i = c.place_for-place.result in
     let below = c.child_at-child.result in
-    let content : slice_get q (stamp_of c.args.at) ≡ Some (chunk_content (chunked.Inner kids)) = c.requires.content ∙ ap
+    let content : slice_get q (stamp_of c.args.here.at) ≡ Some (chunk_content (chunked.Inner kids)) =
+    c.requires.content ∙ ap
     (λ w. Some (chunk_content w)) c.in-Inner.is in
     let place : IsPlace key (keys_of kids) i = subst (λ z. IsPlace z (keys_of kids) i) c.args.down.now.same
     (subst (λ w. IsPlace c.args.down.now.searched.now w i)
     (c.as_slice.ensures.keys ∙ c.deref.ensures ∙ c.firsts.ensures.keys) c.place_for-place.ensures) in
-    let w = way q key c.args.at below kids i c.requires.known content place c.child_at-child.ensures.child in
+    let w = way q key c.args.here.at below kids i c.requires.known content place c.child_at-child.ensures.child in
     let r = c.requires.copies (w.depth + 1) w.deeper in
     omega (arith, r)
 
@@ -126,13 +128,14 @@ change_in-change_at-requires g t c κs within =
     let key = c.args.down.now.key.now in
     let i = c.place_for-place.result in
     let below = c.child_at-child.result in
-    let content : slice_get q (stamp_of c.args.at) ≡ Some (chunk_content (chunked.Inner kids)) = c.requires.content ∙ ap
+    let content : slice_get q (stamp_of c.args.here.at) ≡ Some (chunk_content (chunked.Inner kids)) =
+    c.requires.content ∙ ap
     (λ w. Some (chunk_content w)) c.in-Inner.is in
     let place : IsPlace key (keys_of kids) i = subst (λ z. IsPlace z (keys_of kids) i) c.args.down.now.same
     (subst (λ w. IsPlace c.args.down.now.searched.now w i)
     (c.as_slice.ensures.keys ∙ c.deref.ensures ∙ c.firsts.ensures.keys) c.place_for-place.ensures) in
     let b = c.child_at-child.ensures.child in
-    let w = way q key c.args.at below kids i c.requires.known content place b in
+    let w = way q key c.args.here.at below kids i c.requires.known content place b in
     let all : AreAll (g.C.Chunks.places c.args.chunks.now) (values_of kids) = subst
     (λ z. AreAll (g.C.Chunks.places c.args.chunks.now) (chunk_children z)) c.in-Inner.is c.requires.children in
     let here = all below (child_in kids key i below place b) in
@@ -167,14 +170,15 @@ change_in-returns-in_err-below-in-Inner-clause-stopped g t c =
     let deeper = c.below-deeper.result.key.now in
     let i = c.place_for-place.result in
     let below = c.child_at-child.result in
-    let content : slice_get q (stamp_of c.args.at) ≡ Some (chunk_content (chunked.Inner kids)) = c.requires.content ∙ ap
+    let content : slice_get q (stamp_of c.args.here.at) ≡ Some (chunk_content (chunked.Inner kids)) =
+    c.requires.content ∙ ap
     (λ w. Some (chunk_content w)) c.in-Inner.is in
     let place : IsPlace key (keys_of kids) i = subst (λ z. IsPlace z (keys_of kids) i) c.args.down.now.same
     (subst (λ w. IsPlace c.args.down.now.searched.now w i)
     (c.as_slice.ensures.keys ∙ c.deref.ensures ∙ c.firsts.ensures.keys) c.place_for-place.ensures) in
-    let w = way q key c.args.at below kids i c.requires.known content place c.child_at-child.ensures.child in
+    let w = way q key c.args.here.at below kids i c.requires.known content place c.child_at-child.ensures.child in
     let same : finite.find (slice_cmp nat_cmp) deeper (rows_or (chunk_rows q (stamp_of below)))
-    ≡ finite.find (slice_cmp nat_cmp) key (rows_or (chunk_rows q (stamp_of c.args.at))) =
+    ≡ finite.find (slice_cmp nat_cmp) key (rows_or (chunk_rows q (stamp_of c.args.here.at))) =
     ap (λ z. finite.find (slice_cmp nat_cmp) z (rows_or (chunk_rows q (stamp_of below)))) c.below-deeper.ensures.key
     ∙ w.same in
     handed_on c.from_residual.result c.from_residual.ensures.1 (λ e x. elim (subst (λ e. (e ≡ NoMemory)
@@ -196,20 +200,22 @@ change_in-step_up-requires-clause-fits g t c =
     let deeper = c.below-deeper.result in
     let i = c.place_for-place.result in
     let below = c.child_at-child.result in
-    let content : slice_get q (stamp_of c.args.at) ≡ Some (chunk_content (chunked.Inner kids)) = c.requires.content ∙ ap
+    let content : slice_get q (stamp_of c.args.here.at) ≡ Some (chunk_content (chunked.Inner kids)) =
+    c.requires.content ∙ ap
     (λ w. Some (chunk_content w)) c.in-Inner.is in
     let place : IsPlace key (keys_of kids) i = subst (λ z. IsPlace z (keys_of kids) i) c.args.down.now.same
     (subst (λ w. IsPlace c.args.down.now.searched.now w i)
     (c.as_slice.ensures.keys ∙ c.deref.ensures ∙ c.firsts.ensures.keys) c.place_for-place.ensures) in
     let b = c.child_at-child.ensures.child in
-    let w = way q key c.args.at below kids i c.requires.known content place b in
+    let w = way q key c.args.here.at below kids i c.requires.known content place b in
     let few : length kids ≤ 16 = omega
     (arith, c.firsts.ensures.order.0, ap length c.firsts.ensures.keys, length-keys_of kids) in
     let big : stamp_of below + 2 < 2 ^ 64 = omega (arith, c.child_at-child.ensures.bound) in
     let new = c.change_at.new in
     let r = c.in_ok-below-in-Inner.ensures.reached in
     can_step q (g.C.Chunks.contents new.chunks) (g.C.Chunks.places new.chunks) c.args.down.now.copies
-    c.args.down.now.as_trail key c.args.at below kids i r.0 c.in_ok-below-in-Inner.below new.laying w c.requires.known
+    c.args.down.now.as_trail key c.args.here.at below kids i r.0 c.in_ok-below-in-Inner.below new.laying w
+    c.requires.known
     content c.change_at.ensures.grown.0 place b few big
     (reached_as (g.C.Chunks.contents new.chunks) (g.C.Chunks.places new.chunks) deeper.copies
     (c.args.down.now.copies + 1)
@@ -220,7 +226,7 @@ change_in-step_up-requires-clause-fits g t c =
 pub change_in-returns-in-Leaf-clause-reached : goal.change_in-returns-in-Leaf-clause-reached
 change_in-returns-in-Leaf-clause-reached g t c =
     let q = g.C.Chunks.contents c.args.chunks.now in
-    let k = stamp_of c.args.at in
+    let k = stamp_of c.args.here.at in
     let key = c.args.down.now.key.now in
     let rows = c.in-Leaf.leaf in
     let content : slice_get q k ≡ Some (chunk_content (chunked.Leaf rows)) = c.requires.content ∙ ap
@@ -231,13 +237,13 @@ change_in-returns-in-Leaf-clause-reached g t c =
       subst (λ w. Makes (λ f x s. g.F.FnOnce.post f (x, tt) s) c.args.change
           (finite.find (slice_cmp nat_cmp) key (rows_or w)) (Ok h.0)) (sym is.0) h.1,
       leaf_reached q (g.C.Chunks.places c.args.chunks.now) c.args.down.now.copies
-          c.args.down.now.as_trail key c.args.at rows h.0 r c.change_leaf.new.laying c.requires.known content h.2,
+          c.args.down.now.as_trail key c.args.here.at rows h.0 r c.change_leaf.new.laying c.requires.known content h.2,
     ))
 
 pub change_in-returns-in-Leaf-clause-stopped : goal.change_in-returns-in-Leaf-clause-stopped
 change_in-returns-in-Leaf-clause-stopped g t c =
     let q = g.C.Chunks.contents c.args.chunks.now in
-    let k = stamp_of c.args.at in
+    let k = stamp_of c.args.here.at in
     let rows = c.in-Leaf.leaf in
     let content : slice_get q k ≡ Some (chunk_content (chunked.Leaf rows)) = c.requires.content ∙ ap
     (λ w. Some (chunk_content w)) c.in-Leaf.is in
@@ -257,17 +263,18 @@ change_in-returns-in_ok-step_up-in-Inner-clause-reached g t c =
     let deeper = c.below-deeper.result in
     let i = c.place_for-place.result in
     let below = c.child_at-child.result in
-    let content : slice_get q (stamp_of c.args.at) ≡ Some (chunk_content (chunked.Inner kids)) = c.requires.content ∙ ap
+    let content : slice_get q (stamp_of c.args.here.at) ≡ Some (chunk_content (chunked.Inner kids)) =
+    c.requires.content ∙ ap
     (λ w. Some (chunk_content w)) c.in-Inner.is in
     let place : IsPlace key (keys_of kids) i = subst (λ z. IsPlace z (keys_of kids) i) c.args.down.now.same
     (subst (λ w. IsPlace c.args.down.now.searched.now w i)
     (c.as_slice.ensures.keys ∙ c.deref.ensures ∙ c.firsts.ensures.keys) c.place_for-place.ensures) in
     let b = c.child_at-child.ensures.child in
-    let w = way q key c.args.at below kids i c.requires.known content place b in
+    let w = way q key c.args.here.at below kids i c.requires.known content place b in
     let all : AreAll (g.C.Chunks.places c.args.chunks.now) (values_of kids) = subst
     (λ z. AreAll (g.C.Chunks.places c.args.chunks.now) (chunk_children z)) c.in-Inner.is c.requires.children in
     let same : finite.find (slice_cmp nat_cmp) deeper.key.now (rows_or (chunk_rows q (stamp_of below)))
-    ≡ finite.find (slice_cmp nat_cmp) key (rows_or (chunk_rows q (stamp_of c.args.at))) =
+    ≡ finite.find (slice_cmp nat_cmp) key (rows_or (chunk_rows q (stamp_of c.args.here.at))) =
     ap (λ z. finite.find (slice_cmp nat_cmp) z (rows_or (chunk_rows q (stamp_of below)))) c.below-deeper.ensures.key
     ∙ w.same in
     let new = c.change_at.new in
@@ -276,7 +283,7 @@ change_in-returns-in_ok-step_up-in-Inner-clause-reached g t c =
       u,
       subst (λ z. Makes (λ f x s. g.F.FnOnce.post f (x, tt) s) c.args.change z (Ok u)) same r.1,
       reached_up q (g.C.Chunks.contents new.chunks) (g.C.Chunks.places new.chunks) c.args.down.now.copies
-          c.args.down.now.as_trail key c.args.at below kids i u
+          c.args.down.now.as_trail key c.args.here.at below kids i u
           c.in_ok-below-in-Inner.below c.in_ok-step_up-in-Inner.field-0 new.laying c.step_up.new.laying w
           c.requires.known content c.change_at.ensures.grown.0 (λ at z. c.change_at.ensures.grown.1 at (all at z)) place
           b (reached_as (g.C.Chunks.contents new.chunks) (g.C.Chunks.places new.chunks) deeper.copies

@@ -22,8 +22,8 @@ use Rattle.map_nodes.proofs.nodes.trails.scanning.+walk.Goals as goal
 pub scan_steps-returns-in_default-clause-rows : goal.scan_steps-returns-in_default-clause-rows
 scan_steps-returns-in_default-clause-rows g t c =
     let p = g.C.Chunks.contents c.args.chunks.now in
-    let has = end_shown p c.args.steps.now c.args.end.now c.as_slice.result.now c.deref-in_default.result.now
-    (none_of c.args.steps.now c.in_default.ensures.cases) (c.as_slice.ensures.keys ∙ c.deref.ensures)
+    let has = end_shown p c.args.rest.steps.now c.args.rest.end.now c.as_slice.result.now c.deref-in_default.result.now
+    (none_of c.args.rest.steps.now c.in_default.ensures.cases) (c.as_slice.ensures.keys ∙ c.deref.ensures)
     c.deref-in_default.ensures.value in
     subst (λ w. Took g.S.TakesRows.has c.args.sink.now c.scan_rows.new.sink c.args.room c.in_ok-left.left
     (taken c.args.scan.now c.args.room w)) has c.in_ok-left.ensures
@@ -31,8 +31,8 @@ scan_steps-returns-in_default-clause-rows g t c =
 pub scan_steps-returns-in_err-left-clause-rows : goal.scan_steps-returns-in_err-left-clause-rows
 scan_steps-returns-in_err-left-clause-rows g t c =
     let p = g.C.Chunks.contents c.args.chunks.now in
-    let has = end_shown p c.args.steps.now c.args.end.now c.as_slice.result.now c.deref-in_default.result.now
-    (none_of c.args.steps.now c.in_default.ensures.cases) (c.as_slice.ensures.keys ∙ c.deref.ensures)
+    let has = end_shown p c.args.rest.steps.now c.args.rest.end.now c.as_slice.result.now c.deref-in_default.result.now
+    (none_of c.args.rest.steps.now c.in_default.ensures.cases) (c.as_slice.ensures.keys ∙ c.deref.ensures)
     c.deref-in_default.ensures.value in
     gave_begun g.S.TakesRows.has c.args.sink.now c.scan_rows.new.sink c.args.room c.from_residual.result _ _
     c.from_residual.ensures.1
@@ -43,16 +43,15 @@ pub scan_steps-scan_children-requires : goal.scan_steps-scan_children-requires
 scan_steps-scan_children-requires g t c κs within =
     let s = c.in-Some.step.now in
     let ss = c.in-Some.rest.now in
-    let e = c.args.end.now in
+    let e = c.args.rest.end.now in
     let p = g.C.Chunks.contents c.args.chunks.now in
-    let r = c.requires.1.1.1.1.1 in
     let w = c.in-Some.ensures.cases.0 in
-    let h : IsTrail (s ∷ ss) e = subst (λ z. IsTrail z e) w r.0 in
-    let n = known (shown p (trail_seen c.args.steps.now e).pieces) r.1.1.0 in
+    let h : IsTrail (s ∷ ss) e = subst (λ z. IsTrail z e) w c.requires.trail in
+    let n = known (shown p (trail_seen c.args.rest.steps.now e).pieces) c.requires.tree in
     let shows = step_shown p s (trail_seen ss e) n.rows h.0
     (ap (λ z. shown p (trail_seen z e).pieces) (sym w) ∙ n.is) in
     let places = ap (λ z. places_of (trail_seen z e).pieces) w ∙ step_places s (trail_seen ss e) h.0 in (
-      omega (arith, ap length w, c.requires.1.0),
+      omega (arith, ap length w, c.decreases),
       (
         within.0,
         (
@@ -62,12 +61,9 @@ scan_steps-scan_children-requires g t c κs within =
             (
               h,
               (
-                subst (AreAll (g.C.Chunks.places c.args.chunks.now)) places r.1.0,
-                (
-                  tree_of (kids_shown p (paired (arc_value s.keys) (step_kids s (trail_seen ss e)))) n.rows shows
-                      n.order,
-                  r.1.1.1,
-                ),
+                subst (AreAll (g.C.Chunks.places c.args.chunks.now)) places c.requires.places,
+                tree_of (kids_shown p (paired (arc_value s.keys) (step_kids s (trail_seen ss e)))) n.rows shows
+                    n.order,
               ),
             ),
           ),
@@ -79,12 +75,11 @@ pub scan_steps-returns-clause-rows : goal.scan_steps-returns-clause-rows
 scan_steps-returns-clause-rows g t c =
     let s = c.in-Some.step.now in
     let ss = c.in-Some.rest.now in
-    let e = c.args.end.now in
+    let e = c.args.rest.end.now in
     let p = g.C.Chunks.contents c.args.chunks.now in
-    let r = c.requires.1.1.1.1.1 in
     let w = c.in-Some.ensures.cases.0 in
-    let h : IsTrail (s ∷ ss) e = subst (λ z. IsTrail z e) w r.0 in
-    let n = known (shown p (trail_seen c.args.steps.now e).pieces) r.1.1.0 in
+    let h : IsTrail (s ∷ ss) e = subst (λ z. IsTrail z e) w c.requires.trail in
+    let n = known (shown p (trail_seen c.args.rest.steps.now e).pieces) c.requires.tree in
     let shows = step_shown p s (trail_seen ss e) n.rows h.0
     (ap (λ z. shown p (trail_seen z e).pieces) (sym w) ∙ n.is) in
     subst (λ z. Gave g.S.TakesRows.has c.args.sink.now c.scan_children.new.sink c.args.room c.scan_children.result
@@ -93,31 +88,31 @@ scan_steps-returns-clause-rows g t c =
 pub scan_children-loop-place-init : goal.scan_children-loop-place-init
 scan_children-loop-place-init g t c =
     let p = g.C.Chunks.contents c.args.chunks.now in
-    let r = c.requires.1.1.1.1.1 in
     let s = c.args.way.step.now in
     let below = trail_seen c.args.way.rest.now c.args.way.end.now in
     let ks = arc_value s.keys in
     let xs = step_kids s below in
-    let l = step-pairs s below r.0.0 in
-    let n = known (kids_shown p (paired ks xs)) r.1.1.0 in
+    let l = step-pairs s below c.requires.trail.0 in
+    let n = known (kids_shown p (paired ks xs)) c.requires.tree in
     let k : c.as_slice-firsts.result.now ≡ ks = c.as_slice-firsts.ensures.keys ∙ c.deref.ensures in
     record {
       grown = (([], append-nil p), λ at h. h);
-      rows = pairs_begun (shown_kid p) ks xs c.place_of-place.result n.rows c.args.scan.now c.args.low.now
-          g.S.TakesRows.has c.args.sink.now c.args.room l n.is n.order r.1.1.1
-          (subst (λ w. IsPlace c.args.low.now w c.place_of-place.result) k c.place_of-place.ensures);
+      rows = pairs_begun (shown_kid p) ks xs c.place_of-place.result n.rows c.args.scan.now c.lowest.result.now
+          g.S.TakesRows.has c.args.sink.now c.args.room l n.is n.order c.lowest.ensures
+          (subst (λ w. IsPlace c.lowest.result.now w c.place_of-place.result) k
+          (subst (λ w. IsPlace w c.as_slice-firsts.result.now c.place_of-place.result) c.as_str.ensures
+          c.place_of-place.ensures));
     }
 
 pub scan_children-returns-then-is_over-clause-rows : goal.scan_children-returns-then-is_over-clause-rows
 scan_children-returns-then-is_over-clause-rows g t c =
     let p = g.C.Chunks.contents c.args.chunks.now in
-    let r = c.requires.1.1.1.1.1 in
     let s = c.args.way.step.now in
     let below = trail_seen c.args.way.rest.now c.args.way.end.now in
     let ks = arc_value s.keys in
     let xs = step_kids s below in
-    let l = step-pairs s below r.0.0 in
-    let n = known (kids_shown p (paired ks xs)) r.1.1.0 in
+    let l = step-pairs s below c.requires.trail.0 in
+    let n = known (kids_shown p (paired ks xs)) c.requires.tree in
     let k : c.as_slice-firsts.result.now ≡ ks = c.as_slice-firsts.ensures.keys ∙ c.deref.ensures in
     let b : c.loop-place.place < length ks = omega (arith, c.loop-place-test.true, ap length k) in
     let first = c.index-firsts-place.result in
@@ -131,31 +126,30 @@ scan_children-returns-then-is_over-clause-rows g t c =
 pub scan_children-scan_child-requires : goal.scan_children-scan_child-requires
 scan_children-scan_child-requires g t c κs within =
     let p = g.C.Chunks.contents c.args.chunks.now in
-    let r = c.requires.1.1.1.1.1 in
     let s = c.args.way.step.now in
     let below = trail_seen c.args.way.rest.now c.args.way.end.now in
     let ks = arc_value s.keys in
     let xs = step_kids s below in
-    let l = step-pairs s below r.0.0 in
-    let n = known (kids_shown p (paired ks xs)) r.1.1.0 in
+    let l = step-pairs s below c.requires.trail.0 in
+    let n = known (kids_shown p (paired ks xs)) c.requires.tree in
     let k : c.as_slice-firsts.result.now ≡ ks = c.as_slice-firsts.ensures.keys ∙ c.deref.ensures in
     let b : c.loop-place.place < length ks = omega (arith, c.loop-place-test.true, ap length k) in
     let i = c.loop-place.place in
     let kid = step_kid s below i in
-    let here = kid_here s below i r.0.0 b in
+    let here = kid_here s below i c.requires.trail.0 b in
     let u = kid_turn p (g.C.Chunks.contents c.loop-place.chunks) ks xs i kid c.loop-place.invariant.grown.0 l n b
     here in
     let may = all_on (g.C.Chunks.places c.args.chunks.now) (g.C.Chunks.places c.loop-place.chunks) _
     c.loop-place.invariant.grown.1
-    (kid_all (g.C.Chunks.places c.args.chunks.now) xs i kid (omega (arith, l, b)) here r.1.0) in (
-      omega (arith, c.requires.1.0),
+    (kid_all (g.C.Chunks.places c.args.chunks.now) xs i kid (omega (arith, l, b)) here c.requires.places) in (
+      omega (arith, c.decreases),
       (
         within.0,
         (
           within.1.0,
           (
             within.1.1,
-            (r.0, (omega (arith, r.0.0.1, b), (may, (u.tree, r.1.1.1)))),
+            (c.requires.trail, (omega (arith, c.requires.trail.0.1, b), (may, u.tree))),
           ),
         ),
       ),
@@ -164,18 +158,17 @@ scan_children-scan_child-requires g t c κs within =
 pub scan_children-loop-place-preserved : goal.scan_children-loop-place-preserved
 scan_children-loop-place-preserved g t c =
     let p = g.C.Chunks.contents c.args.chunks.now in
-    let r = c.requires.1.1.1.1.1 in
     let s = c.args.way.step.now in
     let below = trail_seen c.args.way.rest.now c.args.way.end.now in
     let ks = arc_value s.keys in
     let xs = step_kids s below in
-    let l = step-pairs s below r.0.0 in
-    let n = known (kids_shown p (paired ks xs)) r.1.1.0 in
+    let l = step-pairs s below c.requires.trail.0 in
+    let n = known (kids_shown p (paired ks xs)) c.requires.tree in
     let k : c.as_slice-firsts.result.now ≡ ks = c.as_slice-firsts.ensures.keys ∙ c.deref.ensures in
     let b : c.loop-place.place < length ks = omega (arith, c.loop-place-test.true, ap length k) in
     let i = c.loop-place.place in
     let kid = step_kid s below i in
-    let here = kid_here s below i r.0.0 b in
+    let here = kid_here s below i c.requires.trail.0 b in
     let u = kid_turn p (g.C.Chunks.contents c.loop-place.chunks) ks xs i kid c.loop-place.invariant.grown.0 l n b
     here in
     record {
@@ -192,18 +185,17 @@ scan_children-loop-place-preserved g t c =
 pub scan_children-returns-in_err-left-clause-rows : goal.scan_children-returns-in_err-left-clause-rows
 scan_children-returns-in_err-left-clause-rows g t c =
     let p = g.C.Chunks.contents c.args.chunks.now in
-    let r = c.requires.1.1.1.1.1 in
     let s = c.args.way.step.now in
     let below = trail_seen c.args.way.rest.now c.args.way.end.now in
     let ks = arc_value s.keys in
     let xs = step_kids s below in
-    let l = step-pairs s below r.0.0 in
-    let n = known (kids_shown p (paired ks xs)) r.1.1.0 in
+    let l = step-pairs s below c.requires.trail.0 in
+    let n = known (kids_shown p (paired ks xs)) c.requires.tree in
     let k : c.as_slice-firsts.result.now ≡ ks = c.as_slice-firsts.ensures.keys ∙ c.deref.ensures in
     let b : c.loop-place.place < length ks = omega (arith, c.loop-place-test.true, ap length k) in
     let i = c.loop-place.place in
     let kid = step_kid s below i in
-    let here = kid_here s below i r.0.0 b in
+    let here = kid_here s below i c.requires.trail.0 b in
     let u = kid_turn p (g.C.Chunks.contents c.loop-place.chunks) ks xs i kid c.loop-place.invariant.grown.0 l n b
     here in
     gave_begun g.S.TakesRows.has c.args.sink.now c.scan_child.new.sink c.args.room c.from_residual.result _ _
@@ -218,13 +210,12 @@ scan_children-returns-in_err-left-clause-rows g t c =
 pub scan_children-returns-clause-rows : goal.scan_children-returns-clause-rows
 scan_children-returns-clause-rows g t c =
     let p = g.C.Chunks.contents c.args.chunks.now in
-    let r = c.requires.1.1.1.1.1 in
     let s = c.args.way.step.now in
     let below = trail_seen c.args.way.rest.now c.args.way.end.now in
     let ks = arc_value s.keys in
     let xs = step_kids s below in
-    let l = step-pairs s below r.0.0 in
-    let n = known (kids_shown p (paired ks xs)) r.1.1.0 in
+    let l = step-pairs s below c.requires.trail.0 in
+    let n = known (kids_shown p (paired ks xs)) c.requires.tree in
     let k : c.as_slice-firsts.result.now ≡ ks = c.as_slice-firsts.ensures.keys ∙ c.deref.ensures in
     subst (λ w. Took g.S.TakesRows.has c.args.sink.now c.loop-place.sink c.args.room c.loop-place.left
     (taken c.args.scan.now c.args.room w))

@@ -9,13 +9,13 @@ use Rattle.map_nodes.specs.Trails.{step_kids, trail_seen}
 use Rattle.map_nodes.proofs.nodes.trails.scanning.+walk.Given as goal
 
 abbrev pub decreases-scan_steps : goal.decreases-scan_steps
-decreases-scan_steps g l = 3 * length l.steps.now
+decreases-scan_steps g l = 3 * length l.rest.steps.now
 
 abbrev pub decreases-scan_children : goal.decreases-scan_children
 decreases-scan_children g l = 3 * length l.way.rest.now + 2
 
 abbrev pub decreases-scan_child : goal.decreases-scan_child
-decreases-scan_child g l = 3 * length l.way.rest.now + 1
+decreases-scan_child g l = 3 * length l.child.way.rest.now + 1
 
 abbrev pub invariant-scan_children-loop-place : goal.invariant-scan_children-loop-place
 invariant-scan_children-loop-place g l =

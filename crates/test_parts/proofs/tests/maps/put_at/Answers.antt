@@ -4,11 +4,11 @@ use Rattle.group_history.specs.Map.{Entries}
 use Rattle.group_history.specs.Naming.{content_of}
 use Rattle.map_tree.specs.Trees.{tree_map}
 use Rattle.map_tree.proofs.WriteLemmas.{put_there}
-use Rattle.test_parts.proofs.tests.maps.put_number.Goals as goal
+use Rattle.test_parts.proofs.tests.maps.put_at.Goals as goal
 
 pub returns : goal.returns
 returns c =
     put_there (tree_map (map content_of c.args.chunks.now.nodes.now) c.args.tree.now)
     (tree_map (map content_of c.put.new.chunks.nodes.now) c.put.new.self)
-    (λ (m : Entries). finite.insert m c.as_str.result.now c.args.value.now) c.requires
+    (λ (m : Entries). finite.insert m c.args.key.now c.args.value.now) c.requires
     (λ m is. (c.in_ok-put.ensures.put m is).map)
