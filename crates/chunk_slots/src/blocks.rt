@@ -26,7 +26,7 @@ ghost use Rattle.group_history.specs.declared.refusals.Refusal.TheVariants.{NoMe
 ghost use Rattle.chunk_slots.specs.Inside.Blocks.{AreBlocks, IsBlock, length_of, tag_of, block_count};
 ghost use Rattle.chunk_slots.specs.Inside.Places.{IsOfBook};
 
-use crate::counted::Slot;
+use crate::counted::NodeSlot;
 use boxcar::slot::{OnceSlot, SlotRule};
 use boxcar::tag::{Names, Tag};
 use counted_slot::Counted;
@@ -37,10 +37,10 @@ use std::marker::Model;
 
 const BLOCK: u32 = 1024;
 
-type Block<M> = Vec<Slot<M>>;
+type Block<M> = Vec<NodeSlot<M>>;
 
 // Where a block is put once, and for good.
-type Place<M> = OnceSlot<Block<M>, OfBook>;
+type BlockCell<M> = OnceSlot<Block<M>, OfBook>;
 
 // The block has as many slots as its tag says, all of the tag's book.
 struct OfBook;
@@ -72,7 +72,7 @@ impl<M: Means> Names<Plan<M>> for LengthAndBook {
 pub(crate) struct Blocks<M: Means> {
     alloc: Global,
     slots: u32,
-    blocks: Vec<Place<M>>,
+    blocks: Vec<BlockCell<M>>,
     seen: Sight<M>,
 }
 
@@ -119,7 +119,7 @@ fn tag_of<M: Means>(slots: u32, block: u32, mark: &Mark<M>) -> Tag
 }
 
 // The places of all blocks, of which none is there yet.
-fn row<M: Means>(alloc: Global, slots: u32, mark: &Mark<M>) -> Result<Vec<Place<M>>, Refusal>
+fn row<M: Means>(alloc: Global, slots: u32, mark: &Mark<M>) -> Result<Vec<BlockCell<M>>, Refusal>
     requires { slots ≤ max_slots }
     ensures row { IfOk result (λ all.
         AreBlocks (record { slots = slots; book = mark.now.book }) (block_count slots) all.items) }
@@ -157,7 +157,7 @@ impl<M: Means> Blocks<M> {
 
     /// The slot, where its block is there.
     #[inline(always)]
-    pub(crate) fn get(&self, slot: u32) -> Option<&Slot<M>>
+    pub(crate) fn get(&self, slot: u32) -> Option<&NodeSlot<M>>
         ensures { IfSome result (λ found. found.now.book ≡ self.now.book) }
     {
         let block = self.blocks.get((slot / BLOCK) as usize)?.get()?;
@@ -166,7 +166,7 @@ impl<M: Means> Blocks<M> {
 
     /// The slot, whose block is made if it isn't there. It stays, also where the caller is refused then.
     #[inline(always)]
-    pub(crate) fn get_made(&self, slot: u32, tries: u32) -> Result<&Slot<M>, Refusal>
+    pub(crate) fn get_made(&self, slot: u32, tries: u32) -> Result<&NodeSlot<M>, Refusal>
         requires { slot < self.now.slots }
         ensures book { IfOk result (λ found. found.now.book ≡ self.now.book) }
         ensures err { IfErr result (λ e. (e ≡ NoMemory) ⊎ (e ≡ Busy)) }
@@ -199,7 +199,7 @@ impl<M: Means> Blocks<M> {
 }
 
 // The block that another thread has put there, or is putting there.
-fn made_by_another<M: Means>(here: &Place<M>, tries: u32) -> Result<&Block<M>, Refusal>
+fn made_by_another<M: Means>(here: &BlockCell<M>, tries: u32) -> Result<&Block<M>, Refusal>
     ensures block { IfOk result (λ block. IsBlock here.now.tag block.now.items) }
     ensures err { IfErr result (λ e. e ≡ Busy) }
 {

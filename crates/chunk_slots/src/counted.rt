@@ -34,7 +34,7 @@ use head_word::Mark;
 
 /// A slot has 72 bytes: 8 of the word, 8 that say whether there is a node, and 56 of the node: its stamp, and the node
 /// in place.
-pub(crate) type Slot<M> = Counted<Option<Placed<M>>>;
+pub(crate) type NodeSlot<M> = Counted<Option<Placed<M>>>;
 
 fn state_of(word: u64) -> u64
     ensures { result ≡ word % 4 }
@@ -75,7 +75,7 @@ fn mark_at<M: Means>(claim: &Claim<'_, Option<Placed<M>>>, stamp: u64) -> Option
 }
 
 /// Shows the node of the stamp, in one try.
-pub(crate) fn look<M: Means>(slot: &Slot<M>, stamp: u64) -> Result<Shown<'_, M>, StoreStop>
+pub(crate) fn look<M: Means>(slot: &NodeSlot<M>, stamp: u64) -> Result<Shown<'_, M>, StoreStop>
     ensures book { IfOk result (λ shown. shown.mark.book ≡ slot.now.book) }
     ensures content { IfOk result (λ shown. IsContent shown.mark.log stamp shown.node) }
     ensures stamp { IfOk result (λ shown. shown.stamp ≡ stamp) }
@@ -96,7 +96,7 @@ pub(crate) fn look<M: Means>(slot: &Slot<M>, stamp: u64) -> Result<Shown<'_, M>,
 }
 
 /// Puts the node into the slot where nobody reads, in one try. It comes back where that was lost.
-pub(crate) fn put<M: Means>(slot: &Slot<M>, placed: Placed<M>) -> Result<(), Placed<M>>
+pub(crate) fn put<M: Means>(slot: &NodeSlot<M>, placed: Placed<M>) -> Result<(), Placed<M>>
     requires { placed.mark.book ≡ slot.now.book }
     ensures { IfErr result (λ back. back ≡ placed) }
 {

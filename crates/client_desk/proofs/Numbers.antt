@@ -9,7 +9,7 @@ use Rattle.rebase.specs.Watching.{Watched}
 use Rattle.client_desk.specs.declared.calls.Keep.{Keep}
 use Rattle.client_desk.specs.declared.calls.Keep.TheVariants.{At, AtNext}
 use Rattle.client_desk.specs.Inside.Keeping.{AreOf}
-use Rattle.client_desk.specs.Kept.{IsKeptAt, kept_at, room_for, without}
+use Rattle.client_desk.specs.Kept.{IsKeptAt, kept_at, room_for, given_up_at}
 
 -- what is written at a number that is there
 pub kept_there : {X : Type 0} (old wide : List (Option X)) (n : ℕ) (x : X) → n < length wide
@@ -28,7 +28,7 @@ one_more (x ∷ xs) (suc k) = one_more xs k
 
 -- what is kept is of one book
 
-without_of : (book : Book) (ws : List (Option Watched)) (n : ℕ) → AreOf book ws → AreOf book (without ws n)
+without_of : (book : Book) (ws : List (Option Watched)) (n : ℕ) → AreOf book ws → AreOf book (given_up_at ws n)
 without_of book [] n all k = tt
 without_of book (w ∷ ws) zero all zero = tt
 without_of book (w ∷ ws) zero all (suc k) = all (suc k)

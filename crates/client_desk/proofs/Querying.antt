@@ -20,7 +20,7 @@ use Rattle.client_desk.specs.declared.calls.DeskCall.TheVariants as kind
 use Rattle.client_desk.specs.declared.faults.CallFault.{CallFault}
 use Rattle.client_desk.specs.declared.outcomes.Outcome.TheVariants.{Faulty}
 use Rattle.client_desk.specs.Answers.{AnswersReading, AnswersQuery, ReadsBy, ReadsKept, absent}
-use Rattle.client_desk.specs.Answers.{moment_by, read_by, tries}
+use Rattle.client_desk.specs.Answers.{moment_by, read_by_client, tries}
 use Rattle.client_desk.specs.Inside.Reading.{ToldBy, ToldKept, is_query, query_told}
 use Rattle.client_desk.specs.Places.{PlaceState, with_client, with_moment}
 use Rattle.client_desk.specs.Told.{Told, cookie_told, is_told, pending_told, rows_told, tells, told, value_told}
@@ -54,12 +54,12 @@ client_read tell right means client next n m t h = by h.reply h.answer h.point h
     by : (reply : Result Told Refusal)
         → IsLinearized means tries client.seat.mark next.seat.mark reply no_change (λ s. Ok (tell (right s)))
         → IfOk reply (λ x. IsPoint means client.seat.mark next.seat.mark None next.seat.mark.log)
-        → IfOk reply (λ x. x ≡ tell (right (read_by next))) → IfErr reply (IsStoreOrMemory ⊤)
+        → IfOk reply (λ x. x ≡ tell (right (read_by_client next))) → IfErr reply (IsStoreOrMemory ⊤)
         → t ≡ tells (λ x. x) reply → m ≡ moment_by reply next n
         → (read : ReadsBy tell right means client t next) × (m ≡ moment_by read.reply next n)
     by (Ok x) answer point at refused told when = (
       record {
-        reply = Ok (right (read_by next));
+        reply = Ok (right (read_by_client next));
         answer = (next.seat.mark.log, point, refl);
         at = refl;
         refused = tt;
@@ -86,11 +86,11 @@ reader_read : {X : Type 0} (tell : X → Told) (right : State → X) (reader : C
     → (kept : ReadsKept tell right reader t) × (m ≡ moment_by kept.reply reader n)
 reader_read tell right reader n m t h = by h.reply h.answer h.refused h.told h.moment
   where
-    by : (reply : Result Told Refusal) → IfOk reply (λ x. x ≡ tell (right (read_by reader)))
+    by : (reply : Result Told Refusal) → IfOk reply (λ x. x ≡ tell (right (read_by_client reader)))
         → IfErr reply (IsStoreOrMemory ⊤) → t ≡ tells (λ x. x) reply → m ≡ moment_by reply reader n
         → (kept : ReadsKept tell right reader t) × (m ≡ moment_by kept.reply reader n)
     by (Ok x) answer refused told when =
-        (record { reply = Ok (right (read_by reader)); answer = refl; refused = tt; told = told ∙ answer }, when)
+        (record { reply = Ok (right (read_by_client reader)); answer = refl; refused = tt; told = told ∙ answer }, when)
     by (Err e) answer refused told when =
         (record { reply = Err e; answer = tt; refused = refused; told = told }, when)
 

@@ -38,7 +38,7 @@ use Rattle.client_desk.specs.declared.outcomes.Outcome.{Outcome}
 use Rattle.client_desk.specs.declared.outcomes.Outcome.TheVariants.{Done, Faulty, Nothing, Number, Refused}
 use Rattle.client_desk.specs.declared.faults.CallFault.TheVariants as fault
 use Rattle.client_desk.specs.declared.calls.Keep.{Keep}
-use Rattle.client_desk.specs.Kept.{IsKeptAt, IsNumberFor, kept_at, room_for, without}
+use Rattle.client_desk.specs.Kept.{IsKeptAt, IsNumberFor, kept_at, room_for, given_up_at}
 use Rattle.client_desk.specs.Places.{PlaceState, client_at, free_place, read_through, sat, unsat, with_client}
 use Rattle.client_desk.specs.Places.{with_moment, with_reading, with_tickets, with_watches}
 use Rattle.client_desk.specs.Told.{Told, bytes_told, changes_told, cookie_told, dry, id_told, is_told, pending_told}
@@ -139,8 +139,8 @@ pub record Leaves (client : ClientState) (before : PlaceState) (t : Told) (after
 -- ---- calls that change nothing in the group
 
 -- the state up to which a client knows the record: behind a query, and in an open reading, the one that was read
-abbrev pub read_by : ClientState → State
-read_by client = after (record_of client.seat.mark.log)
+abbrev pub read_by_client : ClientState → State
+read_by_client client = after (record_of client.seat.mark.log)
 
 -- The client reads, and the reply is right at a point of the group's record, up to which it knows the record then; it
 -- is told.
@@ -148,7 +148,7 @@ pub record ReadsBy {X : Type 0} (tell : X → Told) (right : State → X) (means
     (t : Told) (next : ClientState) : Type 0 where
   pub reply : Result X Refusal
   pub answer : IsLinearized means tries client.seat.mark next.seat.mark reply no_change (λ s. Ok (right s))
-  pub at : IfOk reply (λ x. x ≡ right (read_by next))
+  pub at : IfOk reply (λ x. x ≡ right (read_by_client next))
   pub refused : IfErr reply (IsStoreOrMemory ⊤)
   pub stays : AfterQuery ⊤ client next
   pub told : t ≡ tells tell reply
@@ -167,7 +167,7 @@ AnswersRead tell right means client before t after =
 -- the reply of an open reading is right at its moment
 pub record ReadsKept {X : Type 0} (tell : X → Told) (right : State → X) (reader : ClientState) (t : Told) : Type 0 where
   pub reply : Result X Refusal
-  pub answer : IfOk reply (λ x. x ≡ right (read_by reader))
+  pub answer : IfOk reply (λ x. x ≡ right (read_by_client reader))
   pub refused : IfErr reply (IsStoreOrMemory ⊤)
   pub told : t ≡ tells tell reply
 
@@ -289,7 +289,7 @@ pub record BeginsPull (keep : Keep) (means : Meanings) (client : ClientState) (b
 -- the ticket of a number is given up
 abbrev pub Forgets : ℕ → Ticket → Rule
 Forgets n kept before t after = (t ≡ told_alone Done)
-    × (after ≡ record before { tickets = without before.tickets n })
+    × (after ≡ record before { tickets = given_up_at before.tickets n })
 
 -- a watch of a scan is kept, which has answered nothing yet; the number under which it is kept is told
 pub record Watches (keep : Keep) (scan : Scan) (client : ClientState) (before : PlaceState) (t : Told)
@@ -304,7 +304,7 @@ pub record Watches (keep : Keep) (scan : Scan) (client : ClientState) (before : 
 -- the watch of a number is given up
 abbrev pub Unwatches : ℕ → Watched → Rule
 Unwatches n kept before t after = (t ≡ told_alone Done)
-    × (after ≡ record before { watches = without before.watches n })
+    × (after ≡ record before { watches = given_up_at before.watches n })
 
 -- how a poll's reply is told, of the watch as it was
 abbrev pub Telling : Type 1

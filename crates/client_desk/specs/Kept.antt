@@ -8,8 +8,8 @@ abbrev pub kept_at : {X : Type 0} → List (Option X) → ℕ → Option X
 kept_at xs n = slice_index_or xs n None
 
 -- it is given up
-abbrev pub without : {X : Type 0} → List (Option X) → ℕ → List (Option X)
-without xs n = slice_set xs n None
+abbrev pub given_up_at : {X : Type 0} → List (Option X) → ℕ → List (Option X)
+given_up_at xs n = slice_set xs n None
 
 -- this is kept under the number, and what is kept under others stays
 pub record IsKeptAt {X : Type 0} (n : ℕ) (x : X) (old new : List (Option X)) : Type 0 where
@@ -28,5 +28,5 @@ IsNumberFor AtNext n xs = IsFirstFree n xs
 
 -- what was kept under a number that is said is given up
 abbrev pub room_for : {X : Type 0} → Keep → List (Option X) → List (Option X)
-room_for (At n) xs = without xs n
+room_for (At n) xs = given_up_at xs n
 room_for AtNext xs = xs

@@ -44,16 +44,16 @@ fault_place fault.NotRead = 112
 abbrev pub fault_number : CallFault → ℤ
 fault_number e = negsuc (fault_place e)
 
-abbrev pub is_number : Bool → ℤ
-is_number true = pos 2
-is_number false = pos 0
+abbrev pub bool_number : Bool → ℤ
+bool_number true = pos 2
+bool_number false = pos 0
 
 -- what a call came to: 0 or above where it was done
 abbrev pub outcome_number : Outcome → ℤ
 outcome_number outcome.Done = pos 0
 outcome_number (outcome.Number n) = pos 0
 outcome_number outcome.Nothing = pos 1
-outcome_number (outcome.Is is) = is_number is
+outcome_number (outcome.Is is) = bool_number is
 outcome_number outcome.Asked = pos 3
 outcome_number (outcome.Refused e) = refusal_number e
 outcome_number (outcome.Faulty e) = fault_number e

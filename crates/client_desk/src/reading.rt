@@ -10,7 +10,7 @@ ghost use Rattle.head_word.specs.Books.{record_of};
 ghost use Rattle.push_body.specs.Rows.{array_text, row_text};
 ghost use Rattle.rebase.specs.Clients.{AfterQuery};
 ghost use Rattle.rebase.specs.Readers.{lent, read_by, seen_by};
-ghost use Rattle.client_desk.specs.Answers.{CountsBy, moment_by, read_by as known_by};
+ghost use Rattle.client_desk.specs.Answers.{CountsBy, moment_by, read_by_client as known_by};
 ghost use Rattle.client_desk.specs.Told.{cookie_told, dry, pending_told, rows_told, tells, told};
 ghost use Rattle.client_desk.specs.Told.{value_told};
 ghost use Rattle.client_desk.specs.Inside.Reading.{PushedBy, PushedKept, ToldBy, ToldKept, is_pulled, is_query};

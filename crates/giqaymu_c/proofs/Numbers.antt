@@ -21,7 +21,7 @@ use Rattle.client_desk.specs.declared.faults.CallFault.{CallFault}
 use Rattle.client_desk.specs.declared.faults.CallFault.TheVariants as fault
 use Rattle.client_desk.specs.declared.outcomes.Outcome.{Outcome}
 use Rattle.client_desk.specs.declared.outcomes.Outcome.TheVariants as outcome
-use Rattle.host_places.specs.Asking.{◌>>=◌, or_bad_uuid, text_said, uuid_in, uuid_said}
+use Rattle.host_places.specs.Asking.{◌>>=◌, or_bad_uuid, text_said, uuid_in, uuid_given}
 use Rattle.group_history.specs.Refusals.{refusal_number, refusal_place}
 use Rattle.group_history.proofs.Numbered.{refusal_place_low}
 use Rattle.client_desk.specs.Numbers.{fault_number, fault_place, outcome_number}
@@ -113,7 +113,7 @@ text_fine bytes = by_cases (is_utf8 bytes) where
   by_cases true = tt
   by_cases false = tt
 
-uuid_fine : (bytes : Bytes) → Said (uuid_said bytes)
+uuid_fine : (bytes : Bytes) → Said (uuid_given bytes)
 uuid_fine bytes = read (text_said bytes) where
   is_one : (o : Option Bytes) → Said (or_bad_uuid o)
   is_one None = tt
@@ -139,7 +139,7 @@ pub layout_fine : (id profile schema : Bytes) (slots seats : ℕ)
     → Fine (HasSeats seats) (layout_said id profile schema slots seats)
 layout_fine id profile schema slots seats =
     fine_then (HasSeats seats) (identity_said id profile schema) _
-    (fine_then (λ _. ⊤) (id_said id) _ (fine_then (λ _. ⊤) (uuid_said id) _ (uuid_fine id) (λ _. tt))
+    (fine_then (λ _. ⊤) (id_said id) _ (fine_then (λ _. ⊤) (uuid_given id) _ (uuid_fine id) (λ _. tt))
     (λ _. fine_then (λ _. ⊤) (text_said profile) _ (text_fine profile)
     (λ _. fine_then (λ _. ⊤) (text_said schema) _ (text_fine schema) (λ _. tt))))
     (laid (out_of_range slots seats) refl) where

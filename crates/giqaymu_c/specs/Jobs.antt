@@ -25,7 +25,7 @@ use Rattle.giqaymu_c.specs.declared.jobs.Job.TheVariants as job
 use Rattle.host_places.specs.declared.numbered.Numbered.{Numbered}
 use Rattle.giqaymu_c.specs.declared.jobs.JobReply.{JobReply}
 use Rattle.giqaymu_c.specs.Own.{Run, runs_mean}
-use Rattle.giqaymu_c.specs.Spots.{SpotState, places_of}
+use Rattle.giqaymu_c.specs.Spots.{SpotState, desk_places}
 
 -- ---- rules
 
@@ -116,7 +116,7 @@ pub record OpensAll (grounds : Grounds) (spot : SpotState) : Type 0 where
   pub layout : Layout
   pub said : layout_said grounds.with.id.now grounds.with.profile.now grounds.with.schema.now grounds.with.slots
       grounds.with.places ≡ Ok layout
-  pub opened : AreOpened layout (places_of spot)
+  pub opened : AreOpened layout (desk_places spot)
 
 -- by its rules, and mutators of the host's own or none
 abbrev pub OpensPlaces : Grounds → SpotState → Type 0

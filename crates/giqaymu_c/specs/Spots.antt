@@ -9,5 +9,5 @@ pub record SpotState : Type 0 where
   pub spare : List DeskState
 
 -- the places of all of them
-abbrev pub places_of : SpotState → List PlaceState
-places_of s = map (λ d. d.place) (s.spare ++ s.desk ∷ [])
+abbrev pub desk_places : SpotState → List PlaceState
+desk_places s = map (λ d. d.place) (s.spare ++ s.desk ∷ [])

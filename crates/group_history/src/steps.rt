@@ -134,7 +134,7 @@ pub(crate) fn confirm(
 
 /// A pulled map, and what it shows.
 #[derive(Drop)]
-pub(crate) struct Shown {
+pub(crate) struct ShownMap {
     pub(crate) pulled: TextMap<Json>,
     pub(crate) view: TextMap<Json>,
 }
@@ -146,13 +146,13 @@ pub(crate) fn patch_and_replay<M: Mutators>(
     pulled: &TextMap<Json>,
     patch: &[Patch],
     pending: &[Mutation],
-) -> Result<Shown, AllocError>
+) -> Result<ShownMap, AllocError>
     ensures pulled { IfOk result (λ s. s.pulled ≡ patched pulled.now patch.now) }
     ensures view { IfOk result (λ s. s.view ≡ replayed M.means s.pulled pending.now) }
 {
     let pulled = apply_patch(pulled, patch)?;
     let view = replay(alloc, mutators, &pulled, pending)?;
-    Ok(Shown { pulled, view })
+    Ok(ShownMap { pulled, view })
 }
 
 /// Whether the response has the group's cookie, and nothing else.

@@ -9,7 +9,7 @@ use Rattle.group_history.specs.Map.{Bytes, Entries}
 use Rattle.group_history.specs.Meaning.{Meanings}
 use Rattle.group_history.specs.Ran.{RunsAs}
 use Rattle.rule_mutators.specs.Meaning.{RunsIfAny, steps_named}
-use Rattle.rule_mutators.specs.Rules.{Rules, Steps}
+use Rattle.rule_mutators.specs.Rules.{Rules, StepList}
 use Rattle.rule_mutators.proofs.PickedRules.{RunsAs-prop}
 use Rattle.script_mutators.specs.Mutators.{script_means}
 use Rattle.host_places.specs.Mutators.{Meant, has_by, has_of, means_by, means_of, means_without}
@@ -32,7 +32,7 @@ bool_prop a b = hlevel (codes, Coded-set)
 
 -- ---- whether the group has it
 
-rule_had : (o : Option Steps) (asks : Bool) (args : Bytes) (m left : Entries) (ran : Ran)
+rule_had : (o : Option StepList) (asks : Bool) (args : Bytes) (m left : Entries) (ran : Ran)
     → RunsIfAny o args m (Some ran) left → true ≡ has_by o asks
 rule_had None asks args m left ran is = absurd is
 rule_had (Some steps) asks args m left ran is = refl
@@ -45,7 +45,7 @@ had_rule held asks meant name args m left ran same is =
     as_named (λ w. true ≡ has_of w name) held asks meant (bool_prop true (has_of meant name)) same
     (rule_had (steps_named name held) asks args m left ran is)
 
-none_had : (o : Option Steps) (asks is_some : Bool) (args : Bytes) (m left : Entries) → RunsIfAny o args m None left
+none_had : (o : Option StepList) (asks is_some : Bool) (args : Bytes) (m left : Entries) → RunsIfAny o args m None left
     → has_by None asks ≡ is_some → is_some ≡ has_by o asks
 none_had None asks is_some args m left is e = sym e
 none_had (Some steps) asks is_some args m left is e = absurd is
@@ -61,7 +61,7 @@ had_none held asks meant name args m left is_some same is e =
 
 -- ---- how it ran
 
-rule_ran : (o : Option Steps) (other : Meanings) (name args : Bytes) (why : Reason) (m left : Entries) (ran : Ran)
+rule_ran : (o : Option StepList) (other : Meanings) (name args : Bytes) (why : Reason) (m left : Entries) (ran : Ran)
     → RunsIfAny o args m (Some ran) left → RunsAs (means_by o other name args why m) ran left
 rule_ran None other name args why m left ran is = absurd is
 rule_ran (Some steps) other name args why m left ran is = is
@@ -75,7 +75,7 @@ ran_rule held asks meant name args why m left ran same is =
     (RunsAs-prop (means_of meant name args why m) ran left) same
     (rule_ran (steps_named name held) (means_without asks meant.own) name args why m left ran is)
 
-script_ran : (o : Option Steps) (name args : Bytes) (why : Reason) (m mid left : Entries) (ran : Ran)
+script_ran : (o : Option StepList) (name args : Bytes) (why : Reason) (m mid left : Entries) (ran : Ran)
     → RunsIfAny o args m None mid → RunsAs (script_means name args why mid) ran left
     → RunsAs (means_by o script_means name args why m) ran left
 script_ran None name args why m mid left ran is did = subst (λ w. RunsAs (script_means name args why w) ran left) is did

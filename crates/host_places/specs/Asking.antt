@@ -46,54 +46,54 @@ abbrev pub uuid_in : Result Bytes Outcome → Result Bytes Outcome
 uuid_in (Ok text) = or_bad_uuid (parsed text)
 uuid_in (Err e) = Err (Faulty BadUuid)
 
-abbrev pub uuid_said : Bytes → Result Bytes Outcome
-uuid_said bytes = uuid_in (text_said bytes)
+abbrev pub uuid_given : Bytes → Result Bytes Outcome
+uuid_given bytes = uuid_in (text_said bytes)
 
 -- JSON, with the refusals of JSON
 abbrev pub or_refused : {X : Type 0} → Result X Refusal → Result X Outcome
 or_refused (Ok x) = Ok x
 or_refused (Err e) = Err (Refused e)
 
-abbrev pub json_said : Bytes → Result Bytes Outcome
-json_said bytes = or_refused (json_text bytes)
+abbrev pub json_given : Bytes → Result Bytes Outcome
+json_given bytes = or_refused (json_text bytes)
 
 -- where a scan begins: 0 anywhere, 1 at the key that the bytes are, 2 after it
-abbrev pub start_said : ℕ → Bytes → Result Start Outcome
-start_said kind bytes =
+abbrev pub start_given : ℕ → Bytes → Result Start Outcome
+start_given kind bytes =
     if kind == 0 then Ok Any
     else (if kind == 1 then text_said bytes >>= (λ key. Ok (At key))
     else (if kind == 2 then text_said bytes >>= (λ key. Ok (After key))
     else Err (Faulty OutOfRange)))
 
 -- how many rows at the most; the largest number is no limit
-abbrev pub limit_said : ℕ → Option ℕ
-limit_said n = if n == 2 ^ 64 - 1 then None else Some n
+abbrev pub limit_given : ℕ → Option ℕ
+limit_given n = if n == 2 ^ 64 - 1 then None else Some n
 
 -- a scan
-abbrev pub scan_said : Bytes → ℕ → Bytes → ℕ → Result Scan Outcome
-scan_said prefix kind start limit =
-    text_said prefix >>= (λ p. start_said kind start
-    >>= (λ s. Ok (record { prefix = p; start = s; limit = limit_said limit })))
+abbrev pub scan_given : Bytes → ℕ → Bytes → ℕ → Result Scan Outcome
+scan_given prefix kind start limit =
+    text_said prefix >>= (λ p. start_given kind start
+    >>= (λ s. Ok (record { prefix = p; start = s; limit = limit_given limit })))
 
 -- a mutator's name and its arguments
-abbrev pub named_said : Bytes → Bytes → Result (Bytes × Bytes) Outcome
-named_said name args = text_said name >>= (λ n. json_said args >>= (λ json. Ok (n, json)))
+abbrev pub mutation_given : Bytes → Bytes → Result (Bytes × Bytes) Outcome
+mutation_given name args = text_said name >>= (λ n. json_given args >>= (λ json. Ok (n, json)))
 
 -- a key and a value for it
 abbrev pub put_said : Bytes → Bytes → Result (Bytes × Bytes) Outcome
-put_said key value = text_said key >>= (λ k. json_said value >>= (λ json. Ok (k, json)))
+put_said key value = text_said key >>= (λ k. json_given value >>= (λ json. Ok (k, json)))
 
 -- writes, with the refusals of a list of writes
 abbrev pub writes_said : Bytes → Result (List Write) Outcome
 writes_said bytes = or_refused (writes_in bytes)
 
 -- how a run ended: 0 done, 1 refused with a code, which has 32 bits, 2 unknown
-abbrev pub code_said : ℕ → Result Ran Outcome
-code_said code = if nat_le code (2 ^ 32 - 1) then Ok (ran.Refused code) else Err (Faulty OutOfRange)
+abbrev pub code_given : ℕ → Result Ran Outcome
+code_given code = if nat_le code (2 ^ 32 - 1) then Ok (ran.Refused code) else Err (Faulty OutOfRange)
 
 abbrev pub ran_said : ℕ → ℕ → Result Ran Outcome
 ran_said kind code =
     if kind == 0 then Ok ran.Done
-    else (if kind == 1 then code_said code
+    else (if kind == 1 then code_given code
     else (if kind == 2 then Ok ran.Unknown
     else Err (Faulty OutOfRange)))

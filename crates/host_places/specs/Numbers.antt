@@ -16,15 +16,15 @@ use Rattle.client_desk.specs.Calls.{MayAnswer}
 use Rattle.client_desk.specs.Numbers.{outcome_value}
 use Rattle.client_desk.specs.Runs.{IsRunTold}
 use Rattle.host_places.specs.declared.numbered.Numbered.{Numbered}
-use Rattle.host_places.specs.Asking.{named_said, put_said, ran_said, scan_said, text_said, uuid_said, writes_said}
+use Rattle.host_places.specs.Asking.{mutation_given, put_said, ran_said, scan_given, text_said, uuid_given, writes_said}
 
 -- The numbers of a call: which one it is, then what it is given. What it doesn't use is not looked at.
 abbrev pub IsCall : DeskCall → ℕ → ℕ → ℕ → Bytes → Bytes → Type 0
-IsCall (call.Sit id) what m n a b = (what ≡ 0) × (uuid_said a ≡ Ok id.now)
+IsCall (call.Sit id) what m n a b = (what ≡ 0) × (uuid_given a ≡ Ok id.now)
 IsCall call.Leave what m n a b = what ≡ 1
 IsCall (call.Get key) what m n a b = (what ≡ 2) × (text_said a ≡ Ok key.now)
 IsCall (call.Has key) what m n a b = (what ≡ 3) × (text_said a ≡ Ok key.now)
-IsCall (call.Scan scan) what m n a b = (what ≡ 4) × (scan_said a m b n ≡ Ok scan.now)
+IsCall (call.Scan scan) what m n a b = (what ≡ 4) × (scan_given a m b n ≡ Ok scan.now)
 IsCall call.Pending what m n a b = what ≡ 5
 IsCall call.Cookie what m n a b = what ≡ 6
 IsCall call.Closed what m n a b = what ≡ 7
@@ -33,14 +33,14 @@ IsCall (call.Push skip) what m n a b = (what ≡ 9) × (skip ≡ m)
 IsCall (call.Begin keep) what m n a b = (what ≡ 10) × (keep ≡ AtNext)
 IsCall (call.Forget t) what m n a b = (what ≡ 11) × (t ≡ m)
 IsCall (call.End t body) what m n a b = (what ≡ 12) × (t ≡ m) × (body.now ≡ a)
-IsCall (call.Mutate x) what m n a b = (what ≡ 13) × (named_said a b ≡ Ok (x.name.now, x.args.now)) × (x.time ≡ n)
-IsCall (call.Watch keep scan) what m n a b = (what ≡ 14) × (keep ≡ AtNext) × (scan_said a m b n ≡ Ok scan.now)
+IsCall (call.Mutate x) what m n a b = (what ≡ 13) × (mutation_given a b ≡ Ok (x.name.now, x.args.now)) × (x.time ≡ n)
+IsCall (call.Watch keep scan) what m n a b = (what ≡ 14) × (keep ≡ AtNext) × (scan_given a m b n ≡ Ok scan.now)
 IsCall (call.Poll w) what m n a b = (what ≡ 15) × (w ≡ m)
 IsCall call.AskedName what m n a b = what ≡ 16
 IsCall call.AskedArgs what m n a b = what ≡ 17
 IsCall (call.DraftGet key) what m n a b = (what ≡ 18) × (text_said a ≡ Ok key.now)
 IsCall (call.DraftHas key) what m n a b = (what ≡ 19) × (text_said a ≡ Ok key.now)
-IsCall (call.DraftScan scan) what m n a b = (what ≡ 20) × (scan_said a m b n ≡ Ok scan.now)
+IsCall (call.DraftScan scan) what m n a b = (what ≡ 20) × (scan_given a m b n ≡ Ok scan.now)
 IsCall (call.DraftPut key value) what m n a b = (what ≡ 21) × (put_said a b ≡ Ok (key.now, value.now))
 IsCall (call.DraftDel key) what m n a b = (what ≡ 22) × (text_said a ≡ Ok key.now)
 IsCall (call.Ran ran) what m n a b = (what ≡ 23) × (ran_said m n ≡ Ok ran)
@@ -50,7 +50,7 @@ IsCall call.BeginRead what m n a b = what ≡ 26
 IsCall call.EndRead what m n a b = what ≡ 27
 IsCall call.Moment what m n a b = what ≡ 28
 IsCall (call.PulledGet key) what m n a b = (what ≡ 29) × (text_said a ≡ Ok key.now)
-IsCall (call.PulledScan scan) what m n a b = (what ≡ 30) × (scan_said a m b n ≡ Ok scan.now)
+IsCall (call.PulledScan scan) what m n a b = (what ≡ 30) × (scan_given a m b n ≡ Ok scan.now)
 IsCall (call.Unwatch w) what m n a b = (what ≡ 31) × (w ≡ m)
 IsCall call.AskedRun what m n a b = what ≡ 32
 IsCall (call.PollChanges w) what m n a b = (what ≡ 33) × (w ≡ m)
@@ -67,8 +67,8 @@ HasScan what = (what ≡ 4) ⊎ (what ≡ 14) ⊎ (what ≡ 20) ⊎ (what ≡ 30
 -- what the call is given says nothing, and this is told; or there is no such call
 abbrev pub SaysNothing : ℕ → ℕ → ℕ → Bytes → Bytes → Outcome → Type 0
 SaysNothing what m n a b e =
-    ((what ≡ 0) × (uuid_said a ≡ Err e)) ⊎ (HasKey what × (text_said a ≡ Err e))
-    ⊎ (HasScan what × (scan_said a m b n ≡ Err e)) ⊎ ((what ≡ 13) × (named_said a b ≡ Err e))
+    ((what ≡ 0) × (uuid_given a ≡ Err e)) ⊎ (HasKey what × (text_said a ≡ Err e))
+    ⊎ (HasScan what × (scan_given a m b n ≡ Err e)) ⊎ ((what ≡ 13) × (mutation_given a b ≡ Err e))
     ⊎ ((what ≡ 21) × (put_said a b ≡ Err e)) ⊎ ((what ≡ 23) × (ran_said m n ≡ Err e))
     ⊎ ((what ≡ 34) × (writes_said a ≡ Err e)) ⊎ ((34 < what) × (e ≡ Faulty OutOfRange))
 
@@ -84,9 +84,9 @@ MayAnswerNumbers has means x before t after =
     ⊎ (IsCopiedCall x.what × TellsOutcome (Refused NoMemory) before t after)
 
 -- the queries, by their numbers: get, has, scan, pending, cookie, closed, push, and get and scan of the pulled map
-abbrev pub is_query : ℕ → Bool
-is_query what = (what == 2) || (what == 3) || (what == 4) || (what == 5) || (what == 6) || (what == 7) || (what == 9)
-    || (what == 29) || (what == 30)
+abbrev pub is_query_number : ℕ → Bool
+is_query_number what = (what == 2) || (what == 3) || (what == 4) || (what == 5) || (what == 6) || (what == 7)
+    || (what == 9) || (what == 29) || (what == 30)
 
 -- of a query that was answered: its moment, which is that of the place's last query
 abbrev pub moment_told : Outcome → ℕ → ℕ
@@ -96,7 +96,7 @@ moment_told other m = m
 
 -- the number that is told beside what a call came to: of a query its moment, else the one that it tells
 abbrev pub number_beside : ℕ → Outcome → ℕ → ℕ
-number_beside what outcome m = if is_query what then moment_told outcome m else outcome_value outcome
+number_beside what outcome m = if is_query_number what then moment_told outcome m else outcome_value outcome
 
 -- the run that the numbers say is one of the group's meaning; where they say no end, nothing has to hold
 abbrev pub IsRunSaid : (Bytes → Bool) → Meanings → Option UnderWay → Result Ran Outcome → Type 0

@@ -14,12 +14,12 @@ use Rattle.client_desk.specs.declared.faults.CallFault.TheVariants as fault
 use Rattle.host_places.specs.declared.opening.GroupOpening.{GroupOpening}
 use Rattle.client_desk.specs.declared.outcomes.Outcome.{Outcome}
 use Rattle.client_desk.specs.declared.outcomes.Outcome.TheVariants.{Faulty, Refused}
-use Rattle.host_places.specs.Asking.{◌>>=◌, text_said, uuid_said}
+use Rattle.host_places.specs.Asking.{◌>>=◌, text_said, uuid_given}
 use Rattle.client_desk.specs.Places.{PlaceState, free_place}
 
 -- whose requests the group writes: its ID is a UUID, the others are texts
 abbrev pub id_said : Bytes → Result Bytes Outcome
-id_said id = uuid_said id >>= (λ uuid. Ok (hyphenated_text lower uuid))
+id_said id = uuid_given id >>= (λ uuid. Ok (hyphenated_text lower uuid))
 
 abbrev pub identity_said : Bytes → Bytes → Bytes → Result Identity Outcome
 identity_said id profile schema =

@@ -1,8 +1,8 @@
 //! The calls of a host, by numbers.
 ghost use Rattle.std.specs.Prelude.{ℕ, ◌≡◌, Ok};
 ghost use Rattle.group_history.specs.Map.{Bytes};
-ghost use Rattle.host_places.specs.Asking.{scan_said, text_said};
-ghost use Rattle.host_places.specs.Numbers.{HasKey, HasScan, IsCall, is_query};
+ghost use Rattle.host_places.specs.Asking.{scan_given, text_said};
+ghost use Rattle.host_places.specs.Numbers.{HasKey, HasScan, IsCall, is_query_number};
 
 use client_desk::{DeskCall, Keep};
 use group_history::Scan;
@@ -19,7 +19,7 @@ pub struct Numbered<'a> {
 
 /// Whether it is the number of a query, which one commit answers.
 pub(crate) fn is_query(what: u32) -> bool
-    ensures { result ≡ is_query what }
+    ensures { result ≡ is_query_number what }
 {
     matches!(what, 2 | 3 | 4 | 5 | 6 | 7 | 9 | 29 | 30)
 }
@@ -43,7 +43,7 @@ pub(crate) fn key_call<'a>(what: u32, key: &'a str) -> DeskCall<'a>
 /// The call of a number that has a scan.
 pub(crate) fn scan_call<'a>(what: u32, scan: &'a Scan) -> DeskCall<'a>
     requires { HasScan what }
-    ensures { (m n : ℕ) (a b : Bytes) → scan_said a m b n ≡ Ok scan.now → IsCall result what m n a b }
+    ensures { (m n : ℕ) (a b : Bytes) → scan_given a m b n ≡ Ok scan.now → IsCall result what m n a b }
 {
     match what {
         4 => DeskCall::Scan(scan),

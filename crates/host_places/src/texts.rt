@@ -1,7 +1,8 @@
 //! What the bytes of a host say.
 ghost use Rattle.std.specs.Prelude.{◌≡◌};
-ghost use Rattle.host_places.specs.Asking.{IsSaid, json_said, limit_said, map_said, named_said, put_said, ran_said};
-ghost use Rattle.host_places.specs.Asking.{scan_said, start_said, text_said, uuid_said, writes_said};
+ghost use Rattle.host_places.specs.Asking.{IsSaid, json_given, limit_given, map_said, mutation_given};
+ghost use Rattle.host_places.specs.Asking.{put_said, ran_said};
+ghost use Rattle.host_places.specs.Asking.{scan_given, start_given, text_said, uuid_given, writes_said};
 
 use client_desk::{CallFault, Outcome};
 use group_history::{Json, Ran, Refusal, Scan, Start, Text};
@@ -35,7 +36,7 @@ pub(crate) fn text_of(alloc: Global, bytes: &[u8]) -> Result<Text, Outcome>
 
 /// The UUID that a text is. Takes no memory.
 pub(crate) fn uuid_of(bytes: &[u8]) -> Result<Uuid, Outcome>
-    ensures { result ≡ uuid_said bytes.now }
+    ensures { result ≡ uuid_given bytes.now }
 {
     let text = match str_of(bytes) {
         Ok(text) => text,
@@ -49,7 +50,7 @@ pub(crate) fn uuid_of(bytes: &[u8]) -> Result<Uuid, Outcome>
 
 /// The JSON that bytes are.
 pub(crate) fn json_of(alloc: Global, bytes: &[u8]) -> Result<Json, Outcome>
-    ensures { IsSaid result (json_said bytes.now) }
+    ensures { IsSaid result (json_given bytes.now) }
 {
     match Json::read(alloc, bytes) {
         Ok(json) => Ok(json),
@@ -58,7 +59,7 @@ pub(crate) fn json_of(alloc: Global, bytes: &[u8]) -> Result<Json, Outcome>
 }
 
 fn start_of(alloc: Global, kind: u32, bytes: &[u8]) -> Result<Start, Outcome>
-    ensures { IsSaid result (start_said kind bytes.now) }
+    ensures { IsSaid result (start_given kind bytes.now) }
 {
     match kind {
         0 => Ok(Start::Any),
@@ -69,7 +70,7 @@ fn start_of(alloc: Global, kind: u32, bytes: &[u8]) -> Result<Start, Outcome>
 }
 
 fn limit_of(limit: u64) -> Option<u64>
-    ensures { result ≡ limit_said limit }
+    ensures { result ≡ limit_given limit }
 {
     if limit == u64::MAX { None } else { Some(limit) }
 }
@@ -82,7 +83,7 @@ pub(crate) fn scan_of(
     start: &[u8],
     limit: u64,
 ) -> Result<Scan, Outcome>
-    ensures { IsSaid result (scan_said prefix.now kind start.now limit) }
+    ensures { IsSaid result (scan_given prefix.now kind start.now limit) }
 {
     let prefix = text_of(alloc, prefix)?;
     let start = start_of(alloc, kind, start)?;
@@ -95,7 +96,7 @@ pub(crate) fn scan_of(
 
 /// A mutator's name, and its arguments.
 pub(crate) fn named_of(alloc: Global, name: &[u8], args: &[u8]) -> Result<(Text, Json), Outcome>
-    ensures { IsSaid result (named_said name.now args.now) }
+    ensures { IsSaid result (mutation_given name.now args.now) }
 {
     let name = text_of(alloc, name)?;
     let args = json_of(alloc, args)?;

@@ -60,13 +60,13 @@ impl PartialEq for Cover {
 
 // A scan of a chunk, and whether it goes on behind the chunk.
 #[derive(Clone, Copy)]
-struct Asked<'a> {
+struct CoverScan<'a> {
     scan: &'a Scan,
     goes_on: bool,
 }
 
 // Whether the scan goes on behind a child: it has the first key there. Behind the last child it is as behind the chunk.
-fn goes_on_behind(asked: Asked<'_>, firsts: &[Text], place: usize) -> bool
+fn goes_on_behind(asked: CoverScan<'_>, firsts: &[Text], place: usize) -> bool
     requires { place < length firsts.now }
 {
     if place + 1 < firsts.len() {
@@ -99,7 +99,7 @@ pub fn cover_placed<C: Chunks>(
     ensures stopped { IfErr result (λ s. (s ≡ NoMemory) ⊎ C.stops s) }
 {
     let mut stamps = Vec::new(alloc);
-    let asked = Asked {
+    let asked = CoverScan {
         scan,
         goes_on: false,
     };
@@ -113,7 +113,7 @@ fn add_child<C: Chunks>(
     chunks: &mut C,
     at: Ref,
     first: &Text,
-    asked: Asked<'_>,
+    asked: CoverScan<'_>,
     stamps: &mut Vec<u64>,
 ) -> Result<(), Stop>
     requires place { C.places chunks.old at }
@@ -135,7 +135,7 @@ fn add_child<C: Chunks>(
 fn add_shown<C: Chunks>(
     chunks: &mut C,
     at: Ref,
-    asked: Asked<'_>,
+    asked: CoverScan<'_>,
     stamps: &mut Vec<u64>,
 ) -> Result<(), Stop>
     requires place { C.places chunks.old at }
@@ -156,7 +156,7 @@ fn add_chunk<C: Chunks>(
     chunks: &mut C,
     at: Ref,
     chunk: &Chunk<Ref>,
-    asked: Asked<'_>,
+    asked: CoverScan<'_>,
     stamps: &mut Vec<u64>,
 ) -> Result<(), Stop>
     requires shown { IsShown (C.places chunks.old) (C.contents chunks.old) (stamp_of at) chunk.now }
@@ -185,7 +185,7 @@ fn add_chunk<C: Chunks>(
 fn add_children<C: Chunks>(
     chunks: &mut C,
     below: Below<'_>,
-    asked: Asked<'_>,
+    asked: CoverScan<'_>,
     stamps: &mut Vec<u64>,
 ) -> Result<(), Stop>
     requires places { AreAll (C.places chunks.old) below.children.now }
@@ -207,7 +207,7 @@ fn add_children<C: Chunks>(
             return Ok(());
         }
         let goes_on = goes_on_behind(asked, below.firsts, place);
-        let child = Asked {
+        let child = CoverScan {
             scan: asked.scan,
             goes_on,
         };

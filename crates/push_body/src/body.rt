@@ -1,6 +1,6 @@
 //! A body as it grows: one buffer, to which pieces are appended.
 //!
-//! Contracts see a `Body` as the list of its bytes, and each method says which bytes it appends. What it
+//! Contracts see a `BodyText` as the list of its bytes, and each method says which bytes it appends. What it
 //! has after an error is not told: a body that met one is let go.
 ghost use Rattle.std.specs.Prelude.{◌≡◌, [], ◌++◌, IfOk, OnOk, decimal};
 ghost use Rattle.push_body.specs.Bodies.{quoted};
@@ -11,11 +11,11 @@ use std::alloc::{AllocError, Global};
 use std::marker::Model;
 
 #[derive(Drop)]
-pub(crate) struct Body {
+pub(crate) struct BodyText {
     bytes: Vec<u8>,
 }
 
-impl Model for Body {
+impl Model for BodyText {
     ghost use Rattle.std.specs.Prelude.{ℕ, List};
 
     ghost Value = { List ℕ };
@@ -23,13 +23,13 @@ impl Model for Body {
     ghost view = { λ b. b.bytes.items };
 }
 
-impl Body {
+impl BodyText {
     /// An empty body, with room for so many bytes at first.
-    pub(crate) fn new(alloc: Global, room: usize) -> Result<Body, AllocError>
+    pub(crate) fn new(alloc: Global, room: usize) -> Result<BodyText, AllocError>
         ensures { IfOk result (λ b. b ≡ []) }
     {
         let bytes = Vec::with_capacity(alloc, room)?;
-        Ok(Body { bytes })
+        Ok(BodyText { bytes })
     }
 
     /// Makes room for so many bytes more.

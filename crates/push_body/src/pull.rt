@@ -3,7 +3,7 @@ ghost use Rattle.std.specs.Prelude.{◌≡◌, ◌++◌, IfOk, OnOk, IsOkUnless}
 ghost use Rattle.group_history.specs.declared.refusals.Refusal.TheVariants as refusal;
 ghost use Rattle.push_body.specs.Bodies.{pull_text};
 
-use crate::body::Body;
+use crate::body::BodyText;
 use crate::identities::Identity;
 use group_history::{Cookie, Refusal};
 use std::alloc::{AllocError, Global};
@@ -11,7 +11,7 @@ use std::alloc::{AllocError, Global};
 /// Bytes of a request beside its cookie, with an identity of usual length.
 const BYTES_OF_REQUEST: usize = 256;
 
-fn pull_all(body: &mut Body, identity: &Identity, cookie: &Cookie) -> Result<(), AllocError>
+fn pull_all(body: &mut BodyText, identity: &Identity, cookie: &Cookie) -> Result<(), AllocError>
     ensures { OnOk result (body.new ≡ body.old ++ pull_text identity.now cookie.now) }
 {
     body.text_field(r#"{"clientGroupID":"#, identity.group.as_str())?;
@@ -25,10 +25,10 @@ fn pull_all(body: &mut Body, identity: &Identity, cookie: &Cookie) -> Result<(),
     body.raw("}")
 }
 
-fn pull_body(alloc: Global, identity: &Identity, cookie: &Cookie) -> Result<Body, AllocError>
+fn pull_body(alloc: Global, identity: &Identity, cookie: &Cookie) -> Result<BodyText, AllocError>
     ensures { IfOk result (λ b. b ≡ pull_text identity.now cookie.now) }
 {
-    let mut body = Body::new(alloc, BYTES_OF_REQUEST.saturating_add(cookie.text().len()))?;
+    let mut body = BodyText::new(alloc, BYTES_OF_REQUEST.saturating_add(cookie.text().len()))?;
     pull_all(&mut body, identity, cookie)?;
     Ok(body)
 }

@@ -9,7 +9,7 @@ ghost use Rattle.push_body.specs.declared.identities.Identity.{Identity as Ident
 ghost use Rattle.push_body.specs.Bodies.{mutation_text, push_text};
 ghost use Rattle.push_body.specs.Written.{HasWritten, comma_text, head_text, tail_text};
 
-use crate::body::Body;
+use crate::body::BodyText;
 use crate::identities::Identity;
 use group_history::Mutation;
 use std::alloc::{AllocError, Global};
@@ -25,7 +25,7 @@ const BYTES_OF_REQUEST: usize = 256;
 #[derive(Drop)]
 pub struct PushWriter<'i> {
     identity: &'i Identity,
-    body: Body,
+    body: BodyText,
     // Whether a mutation stands in the body.
     any: bool,
 }
@@ -35,7 +35,7 @@ impl<'i> PushWriter<'i> {
     pub fn new(alloc: Global, identity: &'i Identity) -> Result<PushWriter<'i>, AllocError>
         ensures { IfOk result (HasWritten identity.now []) }
     {
-        let mut body = Body::new(alloc, BYTES_OF_REQUEST)?;
+        let mut body = BodyText::new(alloc, BYTES_OF_REQUEST)?;
         push_head(&mut body, identity)?;
         Ok(PushWriter {
             identity,
@@ -74,7 +74,7 @@ impl<'i> PushWriter<'i> {
 pub fn mutation_bytes(alloc: Global, mutation: &Mutation) -> Result<Vec<u8>, AllocError>
     ensures { IfOk result (λ v. v.items ≡ mutation_text mutation.now) }
 {
-    let mut body = Body::new(alloc, room_for(mutation))?;
+    let mut body = BodyText::new(alloc, room_for(mutation))?;
     push_mutation(&mut body, mutation)?;
     Ok(body.into_bytes())
 }
@@ -87,7 +87,7 @@ fn room_for(mutation: &Mutation) -> usize {
         .saturating_add(mutation.name.as_str().len())
 }
 
-fn push_head(body: &mut Body, identity: &Identity) -> Result<(), AllocError>
+fn push_head(body: &mut BodyText, identity: &Identity) -> Result<(), AllocError>
     ensures { OnOk result (body.new ≡ body.old ++ head_text identity.now) }
 {
     body.text_field(r#"{"clientGroupID":"#, identity.group.as_str())?;
@@ -95,13 +95,13 @@ fn push_head(body: &mut Body, identity: &Identity) -> Result<(), AllocError>
 }
 
 // What goes before one more mutation.
-fn push_comma(body: &mut Body, any: bool) -> Result<(), AllocError>
+fn push_comma(body: &mut BodyText, any: bool) -> Result<(), AllocError>
     ensures { OnOk result (body.new ≡ body.old ++ comma_text any) }
 {
     if any { body.raw(",") } else { Ok(()) }
 }
 
-fn push_mutation(body: &mut Body, mutation: &Mutation) -> Result<(), AllocError>
+fn push_mutation(body: &mut BodyText, mutation: &Mutation) -> Result<(), AllocError>
     ensures { OnOk result (body.new ≡ body.old ++ mutation_text mutation.now) }
 {
     body.raw(r#"{"args":"#)?;
@@ -113,7 +113,7 @@ fn push_mutation(body: &mut Body, mutation: &Mutation) -> Result<(), AllocError>
     body.raw("}")
 }
 
-fn push_tail(body: &mut Body, identity: &Identity) -> Result<(), AllocError>
+fn push_tail(body: &mut BodyText, identity: &Identity) -> Result<(), AllocError>
     ensures { OnOk result (body.new ≡ body.old ++ tail_text identity.now) }
 {
     body.text_field(r#"],"profileID":"#, identity.profile.as_str())?;

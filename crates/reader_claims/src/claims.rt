@@ -51,7 +51,7 @@ ghost use Rattle.reader_claims.specs.Passes.{Takes, Looks, FindsNone, FoundNone,
 use crate::counts::SlotCounts;
 use crate::plays::Deal;
 use crate::slot::{Kind, Slot};
-use crate::steps::{Reader, Words};
+use crate::steps::{TableSeat, Words};
 use crate::view::Sizes;
 use crate::words::{FIRST_SLOT, LIVE, SlotState};
 use atomic_table::Table;
@@ -67,7 +67,7 @@ pub struct Raised;
 /// are.
 #[derive(Drop)]
 pub struct ClaimSeat {
-    reader: Reader,
+    reader: TableSeat,
     // Where it last found a slot, at first a place of its own, and the least slot that it retired
     // since.
     last: u32,
@@ -142,7 +142,7 @@ impl Claims {
         for dealt in 0..readers {
             let seat = table.shared.split_seat::<Deal>(&mut dealer);
             seats.push(ClaimSeat {
-                reader: Reader {
+                reader: TableSeat {
                     seat,
                     number: dealt + 1,
                     bound: 0,

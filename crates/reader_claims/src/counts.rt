@@ -10,7 +10,7 @@ ghost use Rattle.reader_claims.specs.Machine.{Moves};
 ghost use Rattle.reader_claims.specs.Notes.{Note};
 ghost use Rattle.reader_claims.specs.Seats.{first_reserved};
 
-use crate::steps::{Reader, Words};
+use crate::steps::{TableSeat, Words};
 use crate::words::{Pin, SlotState};
 
 /// How many slots of a table are in each state, and how many of its seats are pinned.
@@ -74,7 +74,7 @@ impl Words {
     ghost use Rattle.reader_claims.specs.Inside.Known.{words_id, reader_id, view};
 
     // Looks at the word of each slot.
-    fn count_slots(&self, reader: &mut Reader) -> SlotCounts
+    fn count_slots(&self, reader: &mut TableSeat) -> SlotCounts
         requires { reader_id reader.old ≡ words_id self.now }
         ensures table { reader_id reader.new ≡ reader_id reader.old }
         ensures moves { Moves (view reader.old) (view reader.new) }
@@ -93,7 +93,7 @@ impl Words {
     }
 
     // Looks at the word of each seat's pin.
-    fn count_pins(&self, reader: &mut Reader, slots: SlotCounts) -> SlotCounts
+    fn count_pins(&self, reader: &mut TableSeat, slots: SlotCounts) -> SlotCounts
         requires table { reader_id reader.old ≡ words_id self.now }
         requires none { slots.pinned_seats ≡ 0 }
         ensures table { reader_id reader.new ≡ reader_id reader.old }
@@ -111,7 +111,7 @@ impl Words {
     }
 
     /// Looks at the word of each slot, and then at that of each pin.
-    pub(crate) fn count(&self, reader: &mut Reader) -> SlotCounts
+    pub(crate) fn count(&self, reader: &mut TableSeat) -> SlotCounts
         requires { reader_id reader.old ≡ words_id self.now }
         ensures table { reader_id reader.new ≡ reader_id reader.old }
         ensures moves { Moves (view reader.old) (view reader.new) }

@@ -12,7 +12,7 @@ ghost use Rattle.reader_claims.specs.Passes.{FoundNone, KnowsNone};
 ghost use Rattle.reader_claims.specs.Inside.Scans.{Later, HasFound};
 
 use crate::slot::Kind;
-use crate::steps::{Reader, Words};
+use crate::steps::{TableSeat, Words};
 use crate::words::{FREE, Pin, SlotState};
 
 // Where there are so many seats, a pass gives slots ahead, so that the next takes need no reading of the pins.
@@ -62,7 +62,7 @@ impl Words {
     }
 
     // The two numbers that the epoch was read as, before and after it was stored as the pin.
-    pub(crate) fn look_twice(&self, reader: &mut Reader) -> (u64, u64)
+    pub(crate) fn look_twice(&self, reader: &mut TableSeat) -> (u64, u64)
         requires { reader_id reader.old ≡ words_id self.now }
         ensures table { reader_id reader.new ≡ reader_id reader.old }
         ensures moves { Moves (view reader.old) (view reader.new) }
@@ -76,7 +76,7 @@ impl Words {
     }
 
     // Reads the epoch, and then each pin: the greatest number at which a slot may be given.
-    pub(crate) fn open_below(&self, reader: &mut Reader) -> u64
+    pub(crate) fn open_below(&self, reader: &mut TableSeat) -> u64
         requires { reader_id reader.old ≡ words_id self.now }
         ensures table { reader_id reader.new ≡ reader_id reader.old }
         ensures moves { Moves (view reader.old) (view reader.new) }
@@ -96,7 +96,7 @@ impl Words {
 
     // Takes the slot if a look finds it free, since a look disturbs no other seat. The word found, by the look or by
     // the take.
-    fn take_if_free(&self, reader: &mut Reader, slot: u32) -> u64
+    fn take_if_free(&self, reader: &mut TableSeat, slot: u32) -> u64
         requires { (reader_id reader.old ≡ words_id self.now) × (slot < self.now.sizes.slots) }
         ensures table { reader_id reader.new ≡ reader_id reader.old }
         ensures moves { Moves (view reader.old) (view reader.new) }
@@ -113,7 +113,7 @@ impl Words {
 
     // Tries to take one slot, also where it has to be given first. Slots are open at `bound` and
     // below.
-    fn try_slot(&self, reader: &mut Reader, slot: u32, bound: u64) -> bool
+    fn try_slot(&self, reader: &mut TableSeat, slot: u32, bound: u64) -> bool
         requires slot { (reader_id reader.old ≡ words_id self.now) × (slot < self.now.sizes.slots) }
         requires below { (r : ℕ) → r ≤ bound → IsOpen (view reader.old) r }
         requires above { (r : ℕ) → bound < r → IsClosed (view reader.old) r }
@@ -142,7 +142,7 @@ impl Words {
     }
 
     // Reads the pins, and gives the slot if it is retired and open.
-    pub(crate) fn try_give(&self, reader: &mut Reader, slot: u32) -> bool
+    pub(crate) fn try_give(&self, reader: &mut TableSeat, slot: u32) -> bool
         requires { (reader_id reader.old ≡ words_id self.now) × (slot < self.now.sizes.slots) }
         ensures table { reader_id reader.new ≡ reader_id reader.old }
         ensures moves { Moves (view reader.old) (view reader.new) }
@@ -161,7 +161,7 @@ impl Words {
         self.give(reader, slot, r) == SlotState::Retired(r).word()
     }
 
-    fn scan(&self, reader: &mut Reader, from: u32, end: u32, bound: u64) -> Option<u32>
+    fn scan(&self, reader: &mut TableSeat, from: u32, end: u32, bound: u64) -> Option<u32>
         requires slots { (reader_id reader.old ≡ words_id self.now) × (end ≤ self.now.sizes.slots) }
         requires below { (r : ℕ) → r ≤ bound → IsOpen (view reader.old) r }
         requires above { (r : ℕ) → bound < r → IsClosed (view reader.old) r }
@@ -182,7 +182,7 @@ impl Words {
     }
 
     // Gives the slot if a plain load finds it retired, and the pins that were read leave it open.
-    fn give_if_open(&self, reader: &mut Reader, slot: u32)
+    fn give_if_open(&self, reader: &mut TableSeat, slot: u32)
         requires { (reader_id reader.old ≡ words_id self.now) × (slot < self.now.sizes.slots) }
         ensures table { reader_id reader.new ≡ reader_id reader.old }
         ensures moves { Moves (view reader.old) (view reader.new) }
@@ -199,7 +199,7 @@ impl Words {
     }
 
     // Gives what is open of the next slots, where there are many seats.
-    fn give_ahead(&self, reader: &mut Reader, from: u32, end: u32)
+    fn give_ahead(&self, reader: &mut TableSeat, from: u32, end: u32)
         requires { (reader_id reader.old ≡ words_id self.now) × (end ≤ self.now.sizes.slots) }
         ensures table { reader_id reader.new ≡ reader_id reader.old }
         ensures moves { Moves (view reader.old) (view reader.new) }
@@ -215,7 +215,7 @@ impl Words {
     }
 
     // Takes the first slot that can be had, as `scan` does, and gives ahead what stands behind it.
-    fn scan_ahead(&self, reader: &mut Reader, from: u32, end: u32, bound: u64) -> Option<u32>
+    fn scan_ahead(&self, reader: &mut TableSeat, from: u32, end: u32, bound: u64) -> Option<u32>
         requires slots { (reader_id reader.old ≡ words_id self.now) × (end ≤ self.now.sizes.slots) }
         requires below { (r : ℕ) → r ≤ bound → IsOpen (view reader.old) r }
         requires above { (r : ℕ) → bound < r → IsClosed (view reader.old) r }
@@ -237,7 +237,7 @@ impl Words {
     // One pass: the epoch and the pins, the ordinary slots from `begin` on and then those before,
     // and the reserved ones if the kind has them.
     #[inline(never)]
-    fn pass(&self, reader: &mut Reader, begin: u32, kind: Kind) -> Option<u32>
+    fn pass(&self, reader: &mut TableSeat, begin: u32, kind: Kind) -> Option<u32>
         requires { (reader_id reader.old ≡ words_id self.now) × (begin ≤ first_reserved self.now.sizes) }
         ensures table { reader_id reader.new ≡ reader_id reader.old }
         ensures moves { Moves (view reader.old) (view reader.new) }
@@ -263,7 +263,7 @@ impl Words {
 
     // Takes a reserved slot from `start` on, where a pass has found no ordinary one, or else what a pass finds. So the
     // reserved slots of one draft cost one pass together, and not one each.
-    fn find_reserved(&self, reader: &mut Reader, start: u32, passed: bool) -> Option<u32>
+    fn find_reserved(&self, reader: &mut TableSeat, start: u32, passed: bool) -> Option<u32>
         requires table { reader_id reader.old ≡ words_id self.now }
         requires passed { passed ≡ true → ∥ FoundNone (view reader.old) (first_reserved self.now.sizes) ∥₁ }
         ensures table { reader_id reader.new ≡ reader_id reader.old }
@@ -290,7 +290,7 @@ impl Words {
     #[inline(always)]
     pub(crate) fn find(
         &self,
-        reader: &mut Reader,
+        reader: &mut TableSeat,
         start: u32,
         passed: bool,
         kind: Kind,

@@ -5,7 +5,7 @@ ghost use Rattle.reader_claims.specs.Passes.{Takes};
 ghost use Rattle.reader_claims.specs.Inside.Scans.{Later};
 
 use crate::passes::Look;
-use crate::steps::{Reader, Words};
+use crate::steps::{TableSeat, Words};
 use crate::words::{FREE, SlotState};
 
 // How many slots are looked at beside where the last one was found, and at how many spread places, before all are.
@@ -18,7 +18,7 @@ impl Words {
     ghost use Rattle.reader_claims.specs.Inside.Looked.{IfTook};
 
     // Gives a slot that was found as retired at r, and takes it, if the pins that were read leave it open.
-    fn quick_give(&self, reader: &mut Reader, slot: u32, r: u64) -> Look
+    fn quick_give(&self, reader: &mut TableSeat, slot: u32, r: u64) -> Look
         requires slot { (reader_id reader.old ≡ words_id self.now) × (slot < self.now.sizes.slots) }
         requires small { r < 2 ^ 63 - 1 }
         ensures table { reader_id reader.new ≡ reader_id reader.old }
@@ -40,7 +40,7 @@ impl Words {
     }
 
     // Takes the slot if a plain load finds it free, or retired and open.
-    fn quick_at(&self, reader: &mut Reader, slot: u32) -> Look
+    fn quick_at(&self, reader: &mut TableSeat, slot: u32) -> Look
         requires { (reader_id reader.old ≡ words_id self.now) × (slot < self.now.sizes.slots) }
         ensures table { reader_id reader.new ≡ reader_id reader.old }
         ensures moves { Moves (view reader.old) (view reader.new) }
@@ -62,7 +62,7 @@ impl Words {
     // Takes the first slot that a plain load finds free or open, and stops at the first that is retired and not known
     // as open.
     #[inline(always)]
-    fn quick(&self, reader: &mut Reader, from: u32, end: u32) -> Look
+    fn quick(&self, reader: &mut TableSeat, from: u32, end: u32) -> Look
         requires { (reader_id reader.old ≡ words_id self.now) × (end ≤ self.now.sizes.slots) }
         ensures table { reader_id reader.new ≡ reader_id reader.old }
         ensures moves { Moves (view reader.old) (view reader.new) }
@@ -79,7 +79,7 @@ impl Words {
     }
 
     // The same, but what is retired and not known as open is passed over.
-    pub(crate) fn quick_over(&self, reader: &mut Reader, from: u32, end: u32) -> Option<u32>
+    pub(crate) fn quick_over(&self, reader: &mut TableSeat, from: u32, end: u32) -> Option<u32>
         requires { (reader_id reader.old ≡ words_id self.now) × (end ≤ self.now.sizes.slots) }
         ensures table { reader_id reader.new ≡ reader_id reader.old }
         ensures moves { Moves (view reader.old) (view reader.new) }
@@ -97,7 +97,7 @@ impl Words {
     }
 
     // As `quick`, at places that are spread over the slots.
-    fn probe(&self, reader: &mut Reader, end: u32) -> Look
+    fn probe(&self, reader: &mut TableSeat, end: u32) -> Look
         requires { (reader_id reader.old ≡ words_id self.now) × (end ≤ self.now.sizes.slots) }
         ensures table { reader_id reader.new ≡ reader_id reader.old }
         ensures moves { Moves (view reader.old) (view reader.new) }
@@ -120,7 +120,7 @@ impl Words {
 
     // As `quick`, at a few slots from `start` on, and then at spread places.
     #[inline(always)]
-    fn quick_few(&self, reader: &mut Reader, start: u32, end: u32) -> Look
+    fn quick_few(&self, reader: &mut TableSeat, start: u32, end: u32) -> Look
         requires { (reader_id reader.old ≡ words_id self.now) × (start ≤ end) × (end ≤ self.now.sizes.slots) }
         ensures table { reader_id reader.new ≡ reader_id reader.old }
         ensures moves { Moves (view reader.old) (view reader.new) }
@@ -136,7 +136,7 @@ impl Words {
 
     // The same from `start` to the end, and then from 0.
     #[inline(never)]
-    fn quick_whole(&self, reader: &mut Reader, start: u32, end: u32) -> Look
+    fn quick_whole(&self, reader: &mut TableSeat, start: u32, end: u32) -> Look
         requires { (reader_id reader.old ≡ words_id self.now) × (start ≤ end) × (end ≤ self.now.sizes.slots) }
         ensures table { reader_id reader.new ≡ reader_id reader.old }
         ensures moves { Moves (view reader.old) (view reader.new) }
@@ -152,7 +152,7 @@ impl Words {
 
     // The same at a few places first, and then at all.
     #[inline(always)]
-    pub(crate) fn quick_round(&self, reader: &mut Reader, start: u32, end: u32) -> Look
+    pub(crate) fn quick_round(&self, reader: &mut TableSeat, start: u32, end: u32) -> Look
         requires { (reader_id reader.old ≡ words_id self.now) × (start ≤ end) × (end ≤ self.now.sizes.slots) }
         ensures table { reader_id reader.new ≡ reader_id reader.old }
         ensures moves { Moves (view reader.old) (view reader.new) }

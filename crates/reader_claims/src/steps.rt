@@ -32,7 +32,7 @@ pub(crate) struct Words {
 
 // A seat at the table. Its epoch is at most 2 ^ 60, so that what is one above it fits a word.
 #[derive(Drop)]
-pub(crate) struct Reader {
+pub(crate) struct TableSeat {
     pub(crate) seat: Seat<(), View>,
     pub(crate) number: u32,
     // What was retired at this number or below may be given, by the pins that were read since the epoch was loaded or
@@ -47,7 +47,7 @@ pub(crate) struct Reader {
 impl Words {
     ghost use Rattle.reader_claims.specs.Inside.Known.{words_id, reader_id, view};
 
-    pub(crate) fn load_epoch(&self, reader: &mut Reader) -> u64
+    pub(crate) fn load_epoch(&self, reader: &mut TableSeat) -> u64
         requires { reader_id reader.old ≡ words_id self.now }
         ensures table { reader_id reader.new ≡ reader_id reader.old }
         ensures view { view reader.new ≡ with_epoch (view reader.old) result }
@@ -58,7 +58,7 @@ impl Words {
         self.table.shared.load::<LoadEpoch>(&mut reader.seat, EPOCH)
     }
 
-    pub(crate) fn store_pin(&self, reader: &mut Reader, epoch: u64)
+    pub(crate) fn store_pin(&self, reader: &mut TableSeat, epoch: u64)
         requires { (reader_id reader.old ≡ words_id self.now) × (epoch ≤ 2 ^ 60) }
         ensures table { reader_id reader.new ≡ reader_id reader.old }
         ensures view { view reader.new ≡ with_pin (view reader.old) (Stored epoch) }
@@ -73,7 +73,7 @@ impl Words {
         );
     }
 
-    pub(crate) fn clear_pin(&self, reader: &mut Reader)
+    pub(crate) fn clear_pin(&self, reader: &mut TableSeat)
         requires { reader_id reader.old ≡ words_id self.now }
         ensures table { reader_id reader.new ≡ reader_id reader.old }
         ensures view { view reader.new ≡ with_pin (view reader.old) Absent }
@@ -87,7 +87,7 @@ impl Words {
     }
 
     // The word of the pin of a reader.
-    pub(crate) fn load_pin(&self, reader: &mut Reader, other: u32) -> u64
+    pub(crate) fn load_pin(&self, reader: &mut TableSeat, other: u32) -> u64
         requires table { reader_id reader.old ≡ words_id self.now }
         requires other { (0 < other) × (other ≤ max_seats) }
         ensures table { reader_id reader.new ≡ reader_id reader.old }
@@ -100,7 +100,7 @@ impl Words {
     }
 
     // The word of a slot.
-    pub(crate) fn look_slot(&self, reader: &mut Reader, slot: u32) -> u64
+    pub(crate) fn look_slot(&self, reader: &mut TableSeat, slot: u32) -> u64
         requires { (reader_id reader.old ≡ words_id self.now) × (slot < self.now.sizes.slots) }
         ensures table { reader_id reader.new ≡ reader_id reader.old }
         ensures view { view reader.new ≡ with_look (view reader.old) slot result }
@@ -113,7 +113,7 @@ impl Words {
     }
 
     // The epoch found.
-    pub(crate) fn raise_epoch(&self, reader: &mut Reader, n: u64) -> u64
+    pub(crate) fn raise_epoch(&self, reader: &mut TableSeat, n: u64) -> u64
         requires table { reader_id reader.old ≡ words_id self.now }
         requires seen { (n < 2 ^ 60) × (n ≤ (view reader.old).reached) }
         ensures table { reader_id reader.new ≡ reader_id reader.old }
@@ -128,7 +128,7 @@ impl Words {
     }
 
     // The word found.
-    pub(crate) fn take(&self, reader: &mut Reader, slot: u32) -> u64
+    pub(crate) fn take(&self, reader: &mut TableSeat, slot: u32) -> u64
         requires { (reader_id reader.old ≡ words_id self.now) × (slot < self.now.sizes.slots) }
         ensures table { reader_id reader.new ≡ reader_id reader.old }
         ensures won { result ≡ slot_word Free → view reader.new ≡ with_taken (view reader.old) slot }
@@ -146,7 +146,7 @@ impl Words {
             .compare_exchange::<Take>(&mut reader.seat, SlotState::place(slot), FREE, mine)
     }
 
-    pub(crate) fn settle(&self, reader: &mut Reader, slot: u32)
+    pub(crate) fn settle(&self, reader: &mut TableSeat, slot: u32)
         requires slot { (reader_id reader.old ≡ words_id self.now) × (slot < self.now.sizes.slots) }
         requires taken { In (view reader.old).taken slot }
         ensures table { reader_id reader.new ≡ reader_id reader.old }
@@ -160,7 +160,7 @@ impl Words {
             .compare_exchange::<Settle>(&mut reader.seat, SlotState::place(slot), mine, LIVE);
     }
 
-    pub(crate) fn withdraw(&self, reader: &mut Reader, slot: u32)
+    pub(crate) fn withdraw(&self, reader: &mut TableSeat, slot: u32)
         requires slot { (reader_id reader.old ≡ words_id self.now) × (slot < self.now.sizes.slots) }
         requires taken { In (view reader.old).taken slot }
         ensures table { reader_id reader.new ≡ reader_id reader.old }
@@ -175,7 +175,7 @@ impl Words {
     }
 
     // The word found.
-    pub(crate) fn retire(&self, reader: &mut Reader, slot: u32, r: u64) -> u64
+    pub(crate) fn retire(&self, reader: &mut TableSeat, slot: u32, r: u64) -> u64
         requires slot { (reader_id reader.old ≡ words_id self.now) × (slot < self.now.sizes.slots) }
         requires raised { (r ≡ (view reader.old).loaded + 1) × ((view reader.old).loaded < (view reader.old).reached) }
         ensures table { reader_id reader.new ≡ reader_id reader.old }
@@ -193,7 +193,7 @@ impl Words {
     }
 
     // The word found, of a slot that was retired at r.
-    pub(crate) fn give(&self, reader: &mut Reader, slot: u32, r: u64) -> u64
+    pub(crate) fn give(&self, reader: &mut TableSeat, slot: u32, r: u64) -> u64
         requires slot { (reader_id reader.old ≡ words_id self.now) × (slot < self.now.sizes.slots) }
         requires open_at { IsOpen (view reader.old) r }
         ensures table { reader_id reader.new ≡ reader_id reader.old }

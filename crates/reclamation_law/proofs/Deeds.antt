@@ -11,7 +11,7 @@ use Rattle.reader_claims.specs.Machine.{Move}
 use Rattle.reclamation_law.specs.Worlds.{Commit, Among, Try, no_try, under_way, ended, Work}
 use Rattle.reclamation_law.specs.Worlds.{slots_of, IsLateTry, IsDrawnIn}
 use Rattle.reclamation_law.specs.Events.{deed_of}
-use Rattle.reclamation_law.specs.Joined.{May, work_after, with_loaded, with_settled, with_retired}
+use Rattle.reclamation_law.specs.Joined.{May, work_after, with_loaded, try_settled, try_retired}
 use Rattle.reclamation_law.specs.Laws.{Reuses, IsRetiring}
 use Rattle.reclamation_law.proofs.Rows.{gone, left}
 
@@ -38,7 +38,7 @@ from_live v a z i x y w (table.retire j room past) may at is = let same : j ≡ 
       may.0,
       subst (In (slots_of a.try)) same may.1,
       subst
-          (λ q. In (slots_of (with_retired a.try j)) q → ⊥) same (gone a.try j may.0),
+          (λ q. In (slots_of (try_retired a.try j)) q → ⊥) same (gone a.try j may.0),
     )
 from_live v a z i x y w (table.give j r room open_at) may at is = absurd (omega arith)
 from_live v a z i x y w (table.lost j old n room miss) may at is = inl is
@@ -67,7 +67,7 @@ from_retired v z r i x y w (table.miss j n room ne) at is = inl is
 abbrev pub Settles : View → ℕ → ℕ → ℕ → ℕ → Type 0
 Settles v z i x y = In v.taken z × (i ≡ slot_at z) × (x ≡ slot_word (Taken v.number)) × (y ≡ slot_word Live)
 
-more : (t : Try) (j z : ℕ) → In (slots_of (with_settled t j)) z → (z ≡ j) ⊎ In (slots_of t) z
+more : (t : Try) (j z : ℕ) → In (slots_of (try_settled t j)) z → (z ≡ j) ⊎ In (slots_of t) z
 more no_try j z h = inr h
 more (under_way settled drawn) j z h = h
 more (ended left loaded) j z h = inr h
@@ -118,12 +118,12 @@ commits_from v a c i x y w (table.give j r room open_at) h = (h, λ n is. is)
 commits_from v a c i x y w (table.lost j old n room miss) h = (h, λ n is. is)
 commits_from v a c i x y w (table.miss j n room ne) h = (h, λ n is. is)
 
-late_settled : (t : Try) (j : ℕ) → IsLateTry (with_settled t j) → IsLateTry t
+late_settled : (t : Try) (j : ℕ) → IsLateTry (try_settled t j) → IsLateTry t
 late_settled no_try j h = h
 late_settled (under_way settled drawn) j h = h
 late_settled (ended left loaded) j h = h
 
-late_retired : (t : Try) (j : ℕ) → IsLateTry (with_retired t j) → IsLateTry t
+late_retired : (t : Try) (j : ℕ) → IsLateTry (try_retired t j) → IsLateTry t
 late_retired no_try j h = h
 late_retired (under_way settled drawn) j h = h
 late_retired (ended left loaded) j h = h
@@ -150,12 +150,12 @@ drawn_loaded no_try q h = h
 drawn_loaded (under_way settled drawn) q h = h
 drawn_loaded (ended left loaded) q h = h
 
-drawn_settled : (t : Try) (j q : ℕ) → IsDrawnIn (with_settled t j) q → IsDrawnIn t q
+drawn_settled : (t : Try) (j q : ℕ) → IsDrawnIn (try_settled t j) q → IsDrawnIn t q
 drawn_settled no_try j q h = h
 drawn_settled (under_way settled drawn) j q h = h
 drawn_settled (ended left loaded) j q h = h
 
-drawn_retired : (t : Try) (j q : ℕ) → IsDrawnIn (with_retired t j) q → IsDrawnIn t q
+drawn_retired : (t : Try) (j q : ℕ) → IsDrawnIn (try_retired t j) q → IsDrawnIn t q
 drawn_retired no_try j q h = h
 drawn_retired (under_way settled drawn) j q h = h
 drawn_retired (ended left loaded) j q h = h

@@ -9,7 +9,7 @@ use Rattle.atomic_table.proofs.Lists.{at_set}
 use Rattle.reader_claims.specs.Lists.{In}
 use Rattle.reader_claims.proofs.Slotted.{left_of}
 use Rattle.reclamation_law.specs.Worlds.{minus, Try, no_try, under_way, ended, IsTrying, slots_of, IsLateTry, IsDrawnIn}
-use Rattle.reclamation_law.specs.Joined.{with_retired, with_drawn}
+use Rattle.reclamation_law.specs.Joined.{try_retired, with_drawn}
 
 -- what holds of the new element, and of each other one, holds of each
 pub each : {A : Type 0} (P : ℕ → A → Type 0) (l : List A) (id : ℕ) (a : A) → P id a
@@ -35,12 +35,12 @@ in_minus xs [] z h = (h, λ n. n)
 in_minus xs (y ∷ ys) z h = let a = left_of y z (minus xs ys) h in let b = in_minus xs ys z a.1 in
     (b.0, λ n. ⊎_elim a.0 b.1 n)
 
-pub gone : (t : Try) (i : ℕ) → IsLateTry t → In (slots_of (with_retired t i)) i → ⊥
+pub gone : (t : Try) (i : ℕ) → IsLateTry t → In (slots_of (try_retired t i)) i → ⊥
 gone no_try i late h = late
 gone (under_way settled drawn) i late h = late
 gone (ended left loaded) i late h = (left_of i i left h).0 refl
 
-pub left : (t : Try) (i z : ℕ) → In (slots_of (with_retired t i)) z → In (slots_of t) z
+pub left : (t : Try) (i z : ℕ) → In (slots_of (try_retired t i)) z → In (slots_of t) z
 left no_try i z h = h
 left (under_way settled drawn) i z h = h
 left (ended l loaded) i z h = (left_of i z l h).1

@@ -24,7 +24,7 @@ use Rattle.reclamation_law.specs.Worlds.{slots_of, IsDrawnIn, Work}
 use Rattle.reclamation_law.specs.Worlds.{World, Sits}
 use Rattle.reclamation_law.specs.Worlds.{head, put}
 use Rattle.reclamation_law.specs.Events.{WorldDeed, Event, deed_of}
-use Rattle.reclamation_law.specs.Joined.{work_after, with_loaded, with_settled, with_retired, with_head, with_try}
+use Rattle.reclamation_law.specs.Joined.{work_after, with_loaded, try_settled, try_retired, with_head, with_try}
 use Rattle.reclamation_law.specs.Joined.{with_drawn, with_won}
 use Rattle.reclamation_law.specs.Joined.{with_lost, JoinedSteps}
 use Rattle.reclamation_law.specs.Stamps as stamps
@@ -105,13 +105,13 @@ loaded_before no_try z n h = absurd n
 loaded_before (under_way settled drawn) z n h = (tt, h)
 loaded_before (ended l loaded) z n h = absurd n
 
-retired_before : (t : Try) (i z : ℕ) → IsTrying (with_retired t i) → In (slots_of (with_retired t i)) z
+retired_before : (t : Try) (i z : ℕ) → IsTrying (try_retired t i) → In (slots_of (try_retired t i)) z
     → IsTrying t × In (slots_of t) z
 retired_before no_try i z n h = absurd n
 retired_before (under_way settled drawn) i z n h = (tt, h)
 retired_before (ended l loaded) i z n h = absurd n
 
-settled_before : (t : Try) (i z : ℕ) → IsTrying (with_settled t i) → In (slots_of (with_settled t i)) z
+settled_before : (t : Try) (i z : ℕ) → IsTrying (try_settled t i) → In (slots_of (try_settled t i)) z
     → (IsTrying t × In (slots_of t) z) ⊎ (z ≡ i)
 settled_before no_try i z n h = absurd n
 settled_before (under_way settled drawn) i z n h = ⊎_elim (λ (e : z ≡ i). inr e) (λ (g : In settled z). inl (tt, g)) h

@@ -47,21 +47,21 @@ abbrev pub with_loaded : Try → Try
 with_loaded (ended left loaded) = ended left true
 with_loaded other = other
 
-abbrev pub with_settled : Try → ℕ → Try
-with_settled (under_way settled drawn) i = under_way (i ∷ settled) drawn
-with_settled other i = other
+abbrev pub try_settled : Try → ℕ → Try
+try_settled (under_way settled drawn) i = under_way (i ∷ settled) drawn
+try_settled other i = other
 
-abbrev pub with_retired : Try → ℕ → Try
-with_retired (ended left loaded) i = ended (without i left) loaded
-with_retired other i = other
+abbrev pub try_retired : Try → ℕ → Try
+try_retired (ended left loaded) i = ended (without i left) loaded
+try_retired other i = other
 
 -- What a seat has under way after such a step. With its pin it gives up the commits that it loaded under it
 abbrev pub work_after : {v : View} {i x y : ℕ} {w : View} → Work → Move v i x y w → Work
 work_after a (table.load_epoch e) = record a { try = with_loaded a.try }
 work_after a (table.store_pin x e some_pin few) = record a { commits = [] }
 work_after a (table.clear_pin x some_pin few) = record a { commits = [] }
-work_after a (table.settle i inside) = record a { try = with_settled a.try i }
-work_after a (table.retire i room past) = record a { try = with_retired a.try i }
+work_after a (table.settle i inside) = record a { try = try_settled a.try i }
+work_after a (table.retire i room past) = record a { try = try_retired a.try i }
 work_after a other = a
 
 -- ---- steps on the book

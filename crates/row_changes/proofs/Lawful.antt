@@ -7,7 +7,7 @@ use Rattle.std.specs.FinMap.Entries.{same_entries}
 use Rattle.group_history.specs.Map.{Bytes, same_text}
 use Rattle.group_history.specs.Rows.{Rows}
 use Rattle.row_changes.specs.declared.changes.RowChange.{RowChange}
-use Rattle.row_changes.specs.Changes.{AreChanges, Values, between, change_at, told, value_in}
+use Rattle.row_changes.specs.Changes.{AreChanges, Values, between, change_at, values_told, value_in}
 use Rattle.row_changes.specs.Laws.{ChangesLaws, laid}
 use Rattle.group_history.proofs.Rising.{is_sorted-rises, same_key}
 
@@ -15,17 +15,18 @@ use Rattle.group_history.proofs.Rising.{is_sorted-rises, same_key}
 abbrev changes : List (Bytes × Values) → List RowChange
 changes ps = map (λ p. record { key = p.0; old = p.1.0; new = p.1.1 }) ps
 
-changes-told : (cs : List RowChange) → changes (told cs) ≡ cs
+changes-told : (cs : List RowChange) → changes (values_told cs) ≡ cs
 changes-told [] = refl
 changes-told (c ∷ cs) = ap (λ ds. c ∷ ds) (changes-told cs)
 
 in_order : (old new : Rows) (cs : List RowChange) → AreChanges old new cs
-    → T (finite.is_sorted (slice_cmp nat_cmp) (told cs))
-in_order old new cs a = subst T (sym (is_sorted-rises (told cs))) a.ascending
+    → T (finite.is_sorted (slice_cmp nat_cmp) (values_told cs))
+in_order old new cs a = subst T (sym (is_sorted-rises (values_told cs))) a.ascending
 
 once : (old new : Rows) (cs ds : List RowChange) → AreChanges old new cs → AreChanges old new ds → cs ≡ ds
 once old new cs ds a b =
-    let one : told cs ≡ told ds = same_entries (slice_cmp nat_cmp) nat_list_cmp_total same_key (told cs) (told ds)
+    let one : values_told cs ≡ values_told ds = same_entries (slice_cmp nat_cmp) nat_list_cmp_total same_key
+    (values_told cs) (values_told ds)
     (in_order old new cs a) (in_order old new ds b) (λ k. a.each k ∙ sym (b.each k)) in
     sym (changes-told cs) ∙ ap changes one ∙ changes-told ds
 

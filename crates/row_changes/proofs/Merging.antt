@@ -9,7 +9,7 @@ use Rattle.std.specs.FinMap.Entries.{by_order}
 use Rattle.group_history.specs.Map.{Bytes, same_text}
 use Rattle.group_history.specs.Rows.{Rows, keys_of, is_below_all, rises}
 use Rattle.row_changes.specs.declared.changes.RowChange.{RowChange}
-use Rattle.row_changes.specs.Changes.{AreChanges, told}
+use Rattle.row_changes.specs.Changes.{AreChanges, values_told}
 use Rattle.row_changes.specs.Inside.{addition, met, removal, replacement}
 use Rattle.group_history.proofs.Rising.{cmp, both, first, second, is_less, same_key, below_less}
 use Rattle.row_changes.proofs.Steps.{are_added, are_met, are_removed}
@@ -36,7 +36,7 @@ merged-none (o ∷ os) = ap (λ cs. removal o ∷ cs) (merged-none os)
 
 -- the key is below all that is told of
 abbrev IsBelow : Bytes → List RowChange → Type 0
-IsBelow k cs = T (is_below_all k (keys_of (told cs)))
+IsBelow k cs = T (is_below_all k (keys_of (values_told cs)))
 
 -- a key below the rows is below what is told of them
 below_met : (k : Bytes) (o n : Bytes × Bytes) (cs : List RowChange) → T (is_lt (cmp k o.0)) → IsBelow k cs

@@ -24,15 +24,15 @@ abbrev pub between : Option Bytes → Option Bytes → Option Values
 between old new = if option_eq same_text old new then None else Some (old, new)
 
 -- what changes tell, under its keys
-abbrev pub told : List RowChange → List (Bytes × Values)
-told changes = map (λ c. (c.key, (c.old, c.new))) changes
+abbrev pub values_told : List RowChange → List (Bytes × Values)
+values_told changes = map (λ c. (c.key, (c.old, c.new))) changes
 
 -- what they tell of a key; none where they tell nothing of it
 abbrev pub change_at : List RowChange → Bytes → Option Values
-change_at changes key = finite.find (slice_cmp nat_cmp) key (told changes)
+change_at changes key = finite.find (slice_cmp nat_cmp) key (values_told changes)
 
 -- the changes between two lists of rows: they stand in the strict order of their keys, and of each key they tell what
 -- is to be told of it, so nothing else is told and nothing is left out
 pub record AreChanges (old new : Rows) (changes : List RowChange) : Type 0 where
-  pub ascending : T (rises (keys_of (told changes)))
+  pub ascending : T (rises (keys_of (values_told changes)))
   pub each : (key : Bytes) → change_at changes key ≡ between (value_in old key) (value_in new key)

@@ -8,15 +8,15 @@ use Rattle.std.specs.Prelude.{Result}
 use Rattle.rule_mutators.specs.declared.faults.RuleFault.{RuleFault}
 use Rattle.rule_mutators.specs.declared.faults.RuleFault.TheVariants.{At}
 use Rattle.rule_mutators.specs.declared.faults.Wrong.TheVariants as wrong
-use Rattle.rule_mutators.specs.Reading.{Part, the_one, the_two, choice_said}
+use Rattle.rule_mutators.specs.Reading.{SaidPart, the_one, the_two, choice_said}
 use Rattle.rule_mutators.specs.Reading.{expression_said, steps_said, item_at, ◌>>=◌}
 use Rattle.rule_mutators.specs.Reading.{field_said, need_said, name_said, code_said}
-use Rattle.rule_mutators.specs.Answers.{Refuses}
+use Rattle.rule_mutators.specs.Answers.{IsFaultOf}
 use Rattle.rule_mutators.specs.Inside.Parts.{parts_behind, branches_behind}
 use Rattle.rule_mutators.specs.Rules as rule
 use Rattle.rule_mutators.proofs.Answering.{refuses_on, refuses_by}
 
-abbrev pub part_at : Bytes → ℕ → Value → Part
+abbrev pub part_at : Bytes → ℕ → Value → SaidPart
 part_at place n v = record { value = view v; said = expression_said (item_at place n) (view v) }
 
 pub not_the_one : (place : Bytes) (vs : List Value) → length vs ≢ 2
@@ -45,24 +45,25 @@ the_two-at place (w ∷ x ∷ y ∷ z ∷ vs) a b long first second = absurd (om
 
 -- a fault in the first of two parts, and in what follows the first
 pub first_refuses : {B : Type 0} (e : RuleFault) (place : Bytes) (vs : List Value) (a : Value)
-    (f : Part × Part → rule.Expression → Result B RuleFault) → length vs ≡ 3 → a ≡ get_or vs 1 a
-    → Refuses e (expression_said (item_at place 1) (view a))
-    → Refuses e (the_two place (parts_behind place (items_view vs)) >>= (λ both. both.0.said >>= f both))
+    (f : SaidPart × SaidPart → rule.Expression → Result B RuleFault) → length vs ≡ 3 → a ≡ get_or vs 1 a
+    → IsFaultOf e (expression_said (item_at place 1) (view a))
+    → IsFaultOf e (the_two place (parts_behind place (items_view vs)) >>= (λ both. both.0.said >>= f both))
 first_refuses e place [] a f long first h = absurd (omega arith)
 first_refuses e place (w ∷ []) a f long first h = absurd (omega arith)
 first_refuses e place (w ∷ x ∷ []) a f long first h = absurd (omega arith)
 first_refuses e place (w ∷ x ∷ y ∷ []) a f long first h =
     refuses_on e (expression_said (item_at place 1) (view x)) (f (part_at place 1 x, part_at place 2 y))
-    (subst (λ v. Refuses e (expression_said (item_at place 1) (view v))) first h)
+    (subst (λ v. IsFaultOf e (expression_said (item_at place 1) (view v))) first h)
 first_refuses e place (w ∷ x ∷ y ∷ z ∷ vs) a f long first h = absurd (omega arith)
 
 pub second_refuses : {B : Type 0} (e : RuleFault) (place : Bytes) (vs : List Value) (a b : Value) (x : rule.Expression)
-    (f : Part × Part → rule.Expression → Result B RuleFault) → length vs ≡ 3 → a ≡ get_or vs 1 a → b ≡ get_or vs 2 b
-    → expression_said (item_at place 1) (view a) ≡ Ok x → Refuses e (f (part_at place 1 a, part_at place 2 b) x)
-    → Refuses e (the_two place (parts_behind place (items_view vs)) >>= (λ both. both.0.said >>= f both))
+    (f : SaidPart × SaidPart → rule.Expression → Result B RuleFault) → length vs ≡ 3 → a ≡ get_or vs 1 a
+    → b ≡ get_or vs 2 b
+    → expression_said (item_at place 1) (view a) ≡ Ok x → IsFaultOf e (f (part_at place 1 a, part_at place 2 b) x)
+    → IsFaultOf e (the_two place (parts_behind place (items_view vs)) >>= (λ both. both.0.said >>= f both))
 second_refuses e place vs a b x f long first second is h =
     refuses_by e (f (part_at place 1 a, part_at place 2 b) x) _
-    (ap (λ (t : Result (Part × Part) RuleFault). t >>= (λ both. both.0.said >>= f both))
+    (ap (λ (t : Result (SaidPart × SaidPart) RuleFault). t >>= (λ both. both.0.said >>= f both))
     (the_two-at place vs a b long first second)
     ∙ ap (λ (r : Result rule.Expression RuleFault). r >>= f (part_at place 1 a, part_at place 2 b)) is) h
 
@@ -71,7 +72,7 @@ pub field_said-at : (place : Bytes) (vs : List Value) (a b : Value) → length v
     ≡ (expression_said (item_at place 1) (view a)
     >>= (λ e. name_said (item_at place 2) (view b) >>= (λ s. Ok (rule.field e s))))
 field_said-at place vs a b long first second =
-    ap (λ (t : Result (Part × Part) RuleFault). t
+    ap (λ (t : Result (SaidPart × SaidPart) RuleFault). t
     >>= (λ both. both.0.said >>= (λ e. name_said (item_at place 2) both.1.value >>= (λ s. Ok (rule.field e s)))))
     (the_two-at place vs a b long first second)
 
@@ -80,7 +81,7 @@ pub need_said-at : (place : Bytes) (vs : List Value) (a b : Value) → length vs
     ≡ (expression_said (item_at place 1) (view a)
     >>= (λ e. code_said (item_at place 2) (view b) >>= (λ n. Ok (rule.need e n))))
 need_said-at place vs a b long first second =
-    ap (λ (t : Result (Part × Part) RuleFault). t
+    ap (λ (t : Result (SaidPart × SaidPart) RuleFault). t
     >>= (λ both. both.0.said >>= (λ e. code_said (item_at place 2) both.1.value >>= (λ n. Ok (rule.need e n)))))
     (the_two-at place vs a b long first second)
 
@@ -94,11 +95,11 @@ not_a_choice place (w ∷ a ∷ b ∷ d ∷ []) other = absurd (other refl)
 not_a_choice place (w ∷ a ∷ b ∷ d ∷ e ∷ vs) other = refl
 
 -- what follows the expression, and the first list
-abbrev pub after_first : Bytes → Value → rule.Expression → rule.Steps → Result rule.Step RuleFault
+abbrev pub after_first : Bytes → Value → rule.Expression → rule.StepList → Result rule.RuleStep RuleFault
 after_first place d e on_true =
     steps_said (item_at place 3) (view d) >>= (λ on_false. Ok (rule.choice e on_true on_false))
 
-abbrev pub after_test : Bytes → Value → Value → rule.Expression → Result rule.Step RuleFault
+abbrev pub after_test : Bytes → Value → Value → rule.Expression → Result rule.RuleStep RuleFault
 after_test place b d e = steps_said (item_at place 2) (view b) >>= after_first place d e
 
 pub choice-at : (place : Bytes) (vs : List Value) (a b d : Value) → length vs ≡ 4 → a ≡ get_or vs 1 a
@@ -114,21 +115,21 @@ choice-at place (w ∷ x ∷ y ∷ z ∷ v ∷ vs) a b d long first second third
 
 -- a fault in the first of three parts, in the second and in the third
 pub choice_first : (e : RuleFault) (place : Bytes) (vs : List Value) (a : Value) → length vs ≡ 4 → a ≡ get_or vs 1 a
-    → Refuses e (expression_said (item_at place 1) (view a))
-    → Refuses e (choice_said place (branches_behind place (items_view vs)))
+    → IsFaultOf e (expression_said (item_at place 1) (view a))
+    → IsFaultOf e (choice_said place (branches_behind place (items_view vs)))
 choice_first e place [] a long first h = absurd (omega arith)
 choice_first e place (w ∷ []) a long first h = absurd (omega arith)
 choice_first e place (w ∷ x ∷ []) a long first h = absurd (omega arith)
 choice_first e place (w ∷ x ∷ y ∷ []) a long first h = absurd (omega arith)
 choice_first e place (w ∷ x ∷ y ∷ z ∷ []) a long first h =
     refuses_on e (expression_said (item_at place 1) (view x)) (after_test place y z)
-    (subst (λ v. Refuses e (expression_said (item_at place 1) (view v))) first h)
+    (subst (λ v. IsFaultOf e (expression_said (item_at place 1) (view v))) first h)
 choice_first e place (w ∷ x ∷ y ∷ z ∷ v ∷ vs) a long first h = absurd (omega arith)
 
 pub choice_second : (e : RuleFault) (place : Bytes) (vs : List Value) (a b : Value) (p : rule.Expression)
     → length vs ≡ 4 → a ≡ get_or vs 1 a → b ≡ get_or vs 2 b → expression_said (item_at place 1) (view a) ≡ Ok p
-    → Refuses e (steps_said (item_at place 2) (view b))
-    → Refuses e (choice_said place (branches_behind place (items_view vs)))
+    → IsFaultOf e (steps_said (item_at place 2) (view b))
+    → IsFaultOf e (choice_said place (branches_behind place (items_view vs)))
 choice_second e place [] a b p long first second is h = absurd (omega arith)
 choice_second e place (w ∷ []) a b p long first second is h = absurd (omega arith)
 choice_second e place (w ∷ x ∷ []) a b p long first second is h = absurd (omega arith)
@@ -138,17 +139,17 @@ choice_second e place (w ∷ x ∷ y ∷ z ∷ []) a b p long first second is h 
     (ap (λ (r : Result rule.Expression RuleFault). r >>= after_test place y z)
     (subst (λ v. expression_said (item_at place 1) (view v) ≡ Ok p) first is))
     (refuses_on e (steps_said (item_at place 2) (view y)) (after_first place z p)
-    (subst (λ v. Refuses e (steps_said (item_at place 2) (view v))) second h))
+    (subst (λ v. IsFaultOf e (steps_said (item_at place 2) (view v))) second h))
 choice_second e place (w ∷ x ∷ y ∷ z ∷ v ∷ vs) a b p long first second is h = absurd (omega arith)
 
 pub choice_third : (e : RuleFault) (place : Bytes) (vs : List Value) (a b d : Value) (p : rule.Expression)
-    (q : rule.Steps) → length vs ≡ 4 → a ≡ get_or vs 1 a → b ≡ get_or vs 2 b → d ≡ get_or vs 3 d
+    (q : rule.StepList) → length vs ≡ 4 → a ≡ get_or vs 1 a → b ≡ get_or vs 2 b → d ≡ get_or vs 3 d
     → expression_said (item_at place 1) (view a) ≡ Ok p → steps_said (item_at place 2) (view b) ≡ Ok q
-    → Refuses e (steps_said (item_at place 3) (view d))
-    → Refuses e (choice_said place (branches_behind place (items_view vs)))
+    → IsFaultOf e (steps_said (item_at place 3) (view d))
+    → IsFaultOf e (choice_said place (branches_behind place (items_view vs)))
 choice_third e place vs a b d p q long first second third is also h =
     refuses_by e (after_first place d p q) _
     (choice-at place vs a b d long first second third
     ∙ ap (λ (r : Result rule.Expression RuleFault). r >>= after_test place b d) is
-    ∙ ap (λ (r : Result rule.Steps RuleFault). r >>= after_first place d p) also)
+    ∙ ap (λ (r : Result rule.StepList RuleFault). r >>= after_first place d p) also)
     (refuses_on e (steps_said (item_at place 3) (view d)) (λ on_false. Ok (rule.choice p q on_false)) h)

@@ -15,12 +15,12 @@ use Rattle.group_history.specs.contracts.texts.Text as Text
 use Rattle.rule_mutators.proofs.language.One.TheSendSync as one
 use Rattle.rule_mutators.proofs.language.Two.TheSendSync as two
 use Rattle.rule_mutators.proofs.language.Which.TheSendSync as which
-use Rattle.rule_mutators.proofs.language.Step.TheLaws.TheKnot as step
+use Rattle.rule_mutators.proofs.language.RuleStep.TheLaws.TheKnot as step
 use Rattle.rule_mutators.proofs.language.Expr.TheLaws.TheKnot as expr
 use Rattle.rule_mutators.specs.declared.mutators.NamesRules as NamesRules
 use Rattle.rule_mutators.specs.contracts.language.Expr as Expr
 use Rattle.rule_mutators.specs.contracts.language.Rules as Rules
-use Rattle.rule_mutators.specs.contracts.language.Step as Step
+use Rattle.rule_mutators.specs.contracts.language.RuleStep as RuleStep
 use Rattle.rule_mutators.specs.contracts.mutators.RuleMutators as RuleMutators
 
 text_sync : IsSync Text.the_row
@@ -42,12 +42,12 @@ expr_sync =
     (λ row sync. search (sync, crosses, sendable) depth 60 fits 20000)
     (λ row sync. search (pair_sync Text.the_row row text_sync sync, crosses, sendable) depth 60 fits 20000)
 
-step_sync : IsSync (Step.the_field).row
+step_sync : IsSync (RuleStep.the_field).row
 step_sync =
-    step.sync-Step expr_sync (search sendable depth 60 fits 20000)
+    step.sync-RuleStep expr_sync (search sendable depth 60 fits 20000)
     (λ row sync. search (sync, crosses, sendable) depth 60 fits 20000)
 
-step_row : IsSync Step.the_row
+step_row : IsSync RuleStep.the_row
 step_row = search (step_sync, sendable) depth 60 fits 20000
 
 pub rules_sync : IsSync (Rules.the_field).row

@@ -10,7 +10,7 @@ use Rattle.serde_json.proofs.Views.{Entry}
 use Rattle.group_history.specs.Map.{Bytes}
 use Rattle.rule_mutators.specs.declared.faults.RuleFault.{RuleFault}
 use Rattle.rule_mutators.specs.declared.language.Expr.{Expr}
-use Rattle.rule_mutators.specs.declared.language.Step.{Step}
+use Rattle.rule_mutators.specs.declared.language.RuleStep.{RuleStep}
 use Rattle.rule_mutators.specs.Reading.{all_said, parts_of, fields_said, list_said, named_said, ◌>>=◌}
 use Rattle.rule_mutators.specs.Reading.{expression_said, step_said, rule_said, item_at, member_at}
 use Rattle.rule_mutators.specs.Rules as rule
@@ -21,11 +21,11 @@ abbrev pub expressions_before : List Expr → rule.Expressions → rule.Expressi
 expressions_before [] es = es
 expressions_before (x ∷ xs) es = rule.expression (expression_of x) (expressions_before xs es)
 
-abbrev pub fields_before : List (Bytes × Expr) → rule.Fields → rule.Fields
+abbrev pub fields_before : List (Bytes × Expr) → rule.ObjectFields → rule.ObjectFields
 fields_before [] fs = fs
 fields_before (x ∷ xs) fs = rule.member x.0 (expression_of x.1) (fields_before xs fs)
 
-abbrev pub steps_before : List Step → rule.Steps → rule.Steps
+abbrev pub steps_before : List RuleStep → rule.StepList → rule.StepList
 steps_before [] ss = ss
 steps_before (x ∷ xs) ss = rule.step (step_of x) (steps_before xs ss)
 
@@ -37,7 +37,7 @@ pub fields_before-none : (xs : List (Bytes × Expr)) → fields_before xs rule.n
 fields_before-none [] = refl
 fields_before-none (x ∷ xs) = ap (rule.member x.0 (expression_of x.1)) (fields_before-none xs)
 
-pub steps_before-none : (xs : List Step) → steps_before xs rule.no_steps ≡ all_steps xs
+pub steps_before-none : (xs : List RuleStep) → steps_before xs rule.no_steps ≡ all_steps xs
 steps_before-none [] = refl
 steps_before-none (x ∷ xs) = ap (rule.step (step_of x)) (steps_before-none xs)
 
@@ -46,12 +46,12 @@ pub expressions_before-push : (xs : List Expr) (x : Expr) (es : rule.Expressions
 expressions_before-push [] x es = refl
 expressions_before-push (y ∷ ys) x es = ap (rule.expression (expression_of y)) (expressions_before-push ys x es)
 
-pub fields_before-push : (xs : List (Bytes × Expr)) (x : Bytes × Expr) (fs : rule.Fields)
+pub fields_before-push : (xs : List (Bytes × Expr)) (x : Bytes × Expr) (fs : rule.ObjectFields)
     → fields_before (xs ++ x ∷ []) fs ≡ fields_before xs (rule.member x.0 (expression_of x.1) fs)
 fields_before-push [] x fs = refl
 fields_before-push (y ∷ ys) x fs = ap (rule.member y.0 (expression_of y.1)) (fields_before-push ys x fs)
 
-pub steps_before-push : (xs : List Step) (x : Step) (ss : rule.Steps)
+pub steps_before-push : (xs : List RuleStep) (x : RuleStep) (ss : rule.StepList)
     → steps_before (xs ++ x ∷ []) ss ≡ steps_before xs (rule.step (step_of x) ss)
 steps_before-push [] x ss = refl
 steps_before-push (y ∷ ys) x ss = ap (rule.step (step_of y)) (steps_before-push ys x ss)
@@ -93,10 +93,10 @@ expressions-end place i vs xs over =
     at_drop_all (λ ws. expressions_left place i ws xs) vs i over ∙ ap Ok (expressions_before-none xs)
 
 -- steps, of which the next has the number i
-abbrev pub steps_left : Bytes → ℕ → List Value → List Step → Result rule.Steps RuleFault
+abbrev pub steps_left : Bytes → ℕ → List Value → List RuleStep → Result rule.StepList RuleFault
 steps_left place i vs xs = list_said place i (items_view vs) >>= (λ ss. Ok (steps_before xs ss))
 
-pub steps-turn : (place : Bytes) (i : ℕ) (vs : List Value) (v : Value) (xs ys : List Step) (x : Step)
+pub steps-turn : (place : Bytes) (i : ℕ) (vs : List Value) (v : Value) (xs ys : List RuleStep) (x : RuleStep)
     → i < length vs → v ≡ get_or vs i v → step_said (item_at place i) (view v) ≡ Ok (step_of x) → ys ≡ xs ++ x ∷ []
     → steps_left place (i + 1) (drop (i + 1) vs) ys ≡ steps_left place i (drop i vs) xs
 steps-turn place i vs v xs ys x inside at is pushed =
@@ -106,13 +106,13 @@ steps-turn place i vs v xs ys x inside at is pushed =
     ∙ ap (λ w. steps_left place i (w ∷ drop (i + 1) vs) xs) at
     ∙ sym (at_drop_more (λ ws. steps_left place i ws xs) vs i v inside)
 
-pub steps-end : (place : Bytes) (i : ℕ) (vs : List Value) (xs : List Step) → length vs ≤ i
+pub steps-end : (place : Bytes) (i : ℕ) (vs : List Value) (xs : List RuleStep) → length vs ≤ i
     → steps_left place i (drop i vs) xs ≡ Ok (all_steps xs)
 steps-end place i vs xs over =
     at_drop_all (λ ws. steps_left place i ws xs) vs i over ∙ ap Ok (steps_before-none xs)
 
 -- fields, by their members
-abbrev pub fields_left : Bytes → List Entry → List (Bytes × Expr) → Result rule.Fields RuleFault
+abbrev pub fields_left : Bytes → List Entry → List (Bytes × Expr) → Result rule.ObjectFields RuleFault
 fields_left place es xs = fields_said place (members_view es) >>= (λ fs. Ok (fields_before xs fs))
 
 pub fields-turn : (place : Bytes) (es left : List Entry) (m : Entry) (xs ys : List (Bytes × Expr)) (x : Bytes × Expr)
@@ -127,11 +127,11 @@ fields-turn place es left m xs ys x at named is pushed =
     ∙ ap (λ ws. fields_left place ws xs) (sym at)
 
 -- rules, by their members
-abbrev pub rules_left : List Entry → List (Bytes × Vec Step Global) → Result rule.Rules RuleFault
+abbrev pub rules_left : List Entry → List (Bytes × Vec RuleStep Global) → Result rule.Rules RuleFault
 rules_left es xs = named_said (members_view es) >>= (λ rs. Ok (map rule_of xs ++ rs))
 
-pub rules-turn : (es left : List Entry) (m : Entry) (xs ys : List (Bytes × Vec Step Global))
-    (x : Bytes × Vec Step Global) → es ≡ m ∷ left → rule_said (string_bytes m.0) (view m.1) ≡ Ok (rule_of x)
+pub rules-turn : (es left : List Entry) (m : Entry) (xs ys : List (Bytes × Vec RuleStep Global))
+    (x : Bytes × Vec RuleStep Global) → es ≡ m ∷ left → rule_said (string_bytes m.0) (view m.1) ≡ Ok (rule_of x)
     → ys ≡ xs ++ x ∷ [] → rules_left left ys ≡ rules_left es xs
 rules-turn es left m xs ys x at is pushed =
     turn (λ r rs. r ∷ rs) (rule_said (string_bytes m.0) (view m.1)) (named_said (members_view left))

@@ -21,22 +21,22 @@ wrong_text wrong.NoCode = codes "no code: not a number below 2^32"
 wrong_text wrong.NotWhole = codes "a number is not whole, or does not fit 64 bits"
 
 -- how it is told that a text is no rules
-abbrev pub fault_text : RuleFault → Bytes
-fault_text fault.NoMemory = codes "memory was refused: free some and read again"
-fault_text fault.NotJson = codes "no JSON text, or one that nests too deep"
-fault_text fault.NotObject = codes "no JSON object"
-fault_text (fault.At place wrong) = place ++ codes ": " ++ wrong_text wrong
+abbrev pub rules_fault_text : RuleFault → Bytes
+rules_fault_text fault.NoMemory = codes "memory was refused: free some and read again"
+rules_fault_text fault.NotJson = codes "no JSON text, or one that nests too deep"
+rules_fault_text fault.NotObject = codes "no JSON object"
+rules_fault_text (fault.At place wrong) = place ++ codes ": " ++ wrong_text wrong
 
 -- ---- what a host is told
 
 -- what is wrong with what was read; nothing with rules
-abbrev pub text_of : Result Rules RuleFault → Bytes
-text_of (Ok rules) = []
-text_of (Err fault) = fault_text fault
+abbrev pub verdict_text : Result Rules RuleFault → Bytes
+verdict_text (Ok rules) = []
+verdict_text (Err fault) = rules_fault_text fault
 
 -- what is wrong with the rules of a text
 abbrev pub fault_told : Bytes → Bytes
-fault_told text = text_of (rules_or_none text)
+fault_told text = verdict_text (rules_or_none text)
 
 -- a text in the place of what a room had, as far as there is room; what is behind the text stays
 abbrev pub laid_over : Bytes → Bytes → Bytes

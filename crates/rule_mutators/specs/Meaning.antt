@@ -22,7 +22,7 @@ use Rattle.rule_mutators.specs.declared.language.One.TheVariants as one
 use Rattle.rule_mutators.specs.declared.language.Two.{Two}
 use Rattle.rule_mutators.specs.declared.language.Two.TheVariants as two
 use Rattle.rule_mutators.specs.Rules as rule
-use Rattle.rule_mutators.specs.Rules.{Expression, Expressions, Fields, Step, Steps, Rules}
+use Rattle.rule_mutators.specs.Rules.{Expression, Expressions, ObjectFields, RuleStep, StepList, Rules}
 
 -- the code with which a rule refuses what is of a wrong type, missing or out of range
 abbrev pub wrong : ℕ
@@ -31,12 +31,12 @@ wrong = 1
 -- ---- the values of expressions; None refuses
 
 -- the text with which a value can be kept in a map: nested at most 124 deep, its numbers whole
-abbrev pub if_kept : Result Bytes Refusal → Option Bytes
-if_kept (Ok text) = Some text
-if_kept (Err e) = None
+abbrev pub text_if_kept : Result Bytes Refusal → Option Bytes
+text_if_kept (Ok text) = Some text
+text_if_kept (Err e) = None
 
 abbrev pub kept_text : Data → Option Bytes
-kept_text d = if_kept (text_of d)
+kept_text d = text_if_kept (text_of d)
 
 -- the text that a value is, or the decimal of its number from -2^63 to 2^63 - 1
 abbrev pub wording : Data → Option Bytes
@@ -113,7 +113,7 @@ abbrev mutual
       option_and_then (λ s. option_map (λ t. s ++ t) (text_at es args m)) (option_and_then wording (value_at e args m))
 
   -- the members that there are, with those of the fields put over them
-  pub members_at : Fields → Members → Data → Entries → Option Members
+  pub members_at : ObjectFields → Members → Data → Entries → Option Members
   members_at rule.no_fields found args m = Some found
   members_at (rule.member name e fs) found args m =
       option_and_then (λ d. members_at fs (tree.put name d found) args m) (value_at e args m)
@@ -155,7 +155,7 @@ and_then (done m) follows = follows m
 
 abbrev mutual
   -- what a step means at arguments and a map
-  pub step_means : Step → Data → Entries → Meaning
+  pub step_means : RuleStep → Data → Entries → Meaning
   step_means (rule.put key e) args m =
       needs wrong (key_at key args m) (λ k. needs wrong (value_at e args m) (λ d. put_means k d m))
   step_means (rule.del key) args m = needs wrong (key_at key args m) (λ k. done (finite.remove m k))
@@ -167,30 +167,30 @@ abbrev mutual
       needs wrong (truth_at e args m) (λ is. if is then steps_mean on_true args m else steps_mean on_false args m)
 
   -- what steps mean, done in order
-  pub steps_mean : Steps → Data → Entries → Meaning
+  pub steps_mean : StepList → Data → Entries → Meaning
   steps_mean rule.no_steps args m = done m
   steps_mean (rule.step s ss) args m = and_then (step_means s args m) (λ n. steps_mean ss args n)
 
 -- ---- rules by name
 
 -- the steps of the rule of a name, where there is one
-abbrev pub steps_named : Bytes → Rules → Option Steps
+abbrev pub steps_named : Bytes → Rules → Option StepList
 steps_named name [] = None
 steps_named name (r ∷ rules) = if same_text name r.0 then Some r.1 else steps_named name rules
 
 -- what a rule means at arguments that are a JSON text
-abbrev pub rule_means : Steps → Bytes → Entries → Meaning
+abbrev pub rule_means : StepList → Bytes → Entries → Meaning
 rule_means steps args m = needs wrong (value_of args) (λ d. steps_mean steps d m)
 
 -- The rule is run and ended so, from one map to another; or there is none, and the map stays.
-abbrev pub RunsIfAny : Option Steps → Bytes → Entries → Option Ran → Entries → Type 0
+abbrev pub RunsIfAny : Option StepList → Bytes → Entries → Option Ran → Entries → Type 0
 RunsIfAny None args old None new = new ≡ old
 RunsIfAny None args old (Some ran) new = ⊥
 RunsIfAny (Some steps) args old None new = ⊥
 RunsIfAny (Some steps) args old (Some ran) new = RunsAs (rule_means steps args old) ran new
 
 -- what a name means: the rule of that name, where there is one, else what it means in scripts
-abbrev pub meaning_by : Option Steps → Meanings
+abbrev pub meaning_by : Option StepList → Meanings
 meaning_by None name args why m = script_means name args why m
 meaning_by (Some steps) name args why m = rule_means steps args m
 

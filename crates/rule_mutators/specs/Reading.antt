@@ -24,7 +24,7 @@ use Rattle.rule_mutators.specs.declared.words.Word.TheVariants as word
 use Rattle.rule_mutators.specs.declared.words.StepWord.{StepWord}
 use Rattle.rule_mutators.specs.declared.words.StepWord.TheVariants as step_word
 use Rattle.rule_mutators.specs.Rules as rule
-use Rattle.rule_mutators.specs.Rules.{Expression, Expressions, Fields, Step, Steps, Rules}
+use Rattle.rule_mutators.specs.Rules.{Expression, Expressions, ObjectFields, RuleStep, StepList, Rules}
 
 -- ---- places, which are JSON Pointers, as a JSON string has them (RFC 6901, sections 3 and 5)
 
@@ -108,8 +108,8 @@ abbrev pub or_other : {A : Type 0} → Option A → Option A → Option A
 or_other None other = other
 or_other (Some x) other = Some x
 
-abbrev pub word_of : Bytes → Option Word
-word_of w = or_other (one_word w) (or_other (two_word w) (other_word w))
+abbrev pub rule_word_of : Bytes → Option Word
+rule_word_of w = or_other (one_word w) (or_other (two_word w) (other_word w))
 
 -- the word of a step
 unfoldable pub step_word_of : Bytes → Option StepWord
@@ -122,30 +122,30 @@ step_word_of w =
     else None))))
 
 -- the first item of an array has to be a word that is known
-abbrev pub known : {A : Type 0} → Bytes → (Bytes → Option A) → Data → Result A RuleFault
-known place words d = or_fault place wrong.NoWord (as_str d) >>= (λ w. or_fault place wrong.UnknownWord (words w))
+abbrev pub known_word : {A : Type 0} → Bytes → (Bytes → Option A) → Data → Result A RuleFault
+known_word place words d = or_fault place wrong.NoWord (as_str d) >>= (λ w. or_fault place wrong.UnknownWord (words w))
 
 -- ---- parts of expressions
 
 -- a part: its value, and what that says as an expression
-pub record Part : Type 0 where
+pub record SaidPart : Type 0 where
   pub value : Data
   pub said : Result Expression RuleFault
 
 -- the one part, and the two
-abbrev pub the_one : Bytes → List Part → Result Part RuleFault
+abbrev pub the_one : Bytes → List SaidPart → Result SaidPart RuleFault
 the_one place [] = Err (At place wrong.Parts)
 the_one place (p ∷ []) = Ok p
 the_one place (p ∷ q ∷ ps) = Err (At place wrong.Parts)
 
-abbrev pub the_two : Bytes → List Part → Result (Part × Part) RuleFault
+abbrev pub the_two : Bytes → List SaidPart → Result (SaidPart × SaidPart) RuleFault
 the_two place [] = Err (At place wrong.Parts)
 the_two place (p ∷ []) = Err (At place wrong.Parts)
 the_two place (p ∷ q ∷ []) = Ok (p, q)
 the_two place (p ∷ q ∷ r ∷ ps) = Err (At place wrong.Parts)
 
 -- the value of the one part
-abbrev pub one_value : Bytes → List Part → Result Data RuleFault
+abbrev pub one_value : Bytes → List SaidPart → Result Data RuleFault
 one_value place parts = the_one place parts >>= (λ p. Ok p.value)
 
 -- a value whose numbers are whole
@@ -167,30 +167,30 @@ abbrev pub name_said : Bytes → Data → Result Bytes RuleFault
 name_said place d = or_fault place wrong.NoName (as_str d)
 
 -- one expression, two, and all
-abbrev pub one_said : Bytes → List Part → Result Expression RuleFault
+abbrev pub one_said : Bytes → List SaidPart → Result Expression RuleFault
 one_said place parts = the_one place parts >>= (λ p. p.said)
 
-abbrev pub two_said : Bytes → List Part → Result (Expression × Expression) RuleFault
+abbrev pub two_said : Bytes → List SaidPart → Result (Expression × Expression) RuleFault
 two_said place parts = the_two place parts >>= (λ both. both.0.said >>= (λ e. both.1.said >>= (λ f. Ok (e, f))))
 
-abbrev pub all_said : List Part → Result Expressions RuleFault
+abbrev pub all_said : List SaidPart → Result Expressions RuleFault
 all_said [] = Ok rule.no_expressions
 all_said (p ∷ ps) = p.said >>= (λ e. all_said ps >>= (λ es. Ok (rule.expression e es)))
 
 -- one of the arguments, a value that stands for itself, and a field of an expression
-abbrev pub argument_said : Bytes → List Part → Result Expression RuleFault
+abbrev pub argument_said : Bytes → List SaidPart → Result Expression RuleFault
 argument_said place parts =
     one_value place parts >>= (λ d. which_said (item_at place 1) d >>= (λ w. Ok (rule.argument w)))
 
-abbrev pub lit_said : Bytes → List Part → Result Expression RuleFault
+abbrev pub lit_said : Bytes → List SaidPart → Result Expression RuleFault
 lit_said place parts = one_value place parts >>= literal_said (item_at place 1)
 
-abbrev pub field_said : Bytes → List Part → Result Expression RuleFault
+abbrev pub field_said : Bytes → List SaidPart → Result Expression RuleFault
 field_said place parts = the_two place parts
     >>= (λ both. both.0.said >>= (λ e. name_said (item_at place 2) both.1.value >>= (λ s. Ok (rule.field e s))))
 
 -- what a word says with its parts
-abbrev pub parts_said : Bytes → Word → List Part → Result Expression RuleFault
+abbrev pub parts_said : Bytes → Word → List SaidPart → Result Expression RuleFault
 parts_said place word.Arg parts = argument_said place parts
 parts_said place word.Lit parts = lit_said place parts
 parts_said place word.Field parts = field_said place parts
@@ -213,15 +213,16 @@ abbrev mutual
   -- a word and its parts
   pub words_said : Bytes → Items → Result Expression RuleFault
   words_said place no_items = Err (At place wrong.NoWord)
-  words_said place (item w ds) = known place word_of w >>= (λ word. parts_said place word (parts_of place 1 ds))
+  words_said place (item w ds) = known_word place rule_word_of w
+      >>= (λ word. parts_said place word (parts_of place 1 ds))
 
   -- parts of which the first has the number n
-  pub parts_of : Bytes → ℕ → Items → List Part
+  pub parts_of : Bytes → ℕ → Items → List SaidPart
   parts_of place n no_items = []
   parts_of place n (item d ds) =
       (record { value = d; said = expression_said (item_at place n) d }) ∷ parts_of place (n + 1) ds
 
-  pub fields_said : Bytes → Members → Result Fields RuleFault
+  pub fields_said : Bytes → Members → Result ObjectFields RuleFault
   fields_said place no_members = Ok rule.no_fields
   fields_said place (member name d ms) = expression_said (member_at place name) d
       >>= (λ e. fields_said place ms >>= (λ fs. Ok (rule.member name e fs)))
@@ -236,17 +237,17 @@ abbrev pub code_said : Bytes → Data → Result ℕ RuleFault
 code_said place d = or_fault place wrong.NoCode (code_of d)
 
 -- an expression and a code
-abbrev pub need_said : Bytes → List Part → Result Step RuleFault
+abbrev pub need_said : Bytes → List SaidPart → Result RuleStep RuleFault
 need_said place parts = the_two place parts
     >>= (λ both. both.0.said >>= (λ e. code_said (item_at place 2) both.1.value >>= (λ n. Ok (rule.need e n))))
 
 -- a part of an `if`: its value, and what that says as a list of steps
 pub record Branch : Type 0 where
   pub value : Data
-  pub said : Result Steps RuleFault
+  pub said : Result StepList RuleFault
 
 -- an expression and two lists of steps
-abbrev pub choice_said : Bytes → List Branch → Result Step RuleFault
+abbrev pub choice_said : Bytes → List Branch → Result RuleStep RuleFault
 choice_said place [] = Err (At place wrong.Parts)
 choice_said place (p ∷ []) = Err (At place wrong.Parts)
 choice_said place (p ∷ q ∷ []) = Err (At place wrong.Parts)
@@ -255,7 +256,7 @@ choice_said place (p ∷ q ∷ r ∷ []) = expression_said (item_at place 1) p.v
 choice_said place (p ∷ q ∷ r ∷ s ∷ ps) = Err (At place wrong.Parts)
 
 -- what a word says with its parts
-abbrev pub step_parts_said : Bytes → StepWord → List Part → List Branch → Result Step RuleFault
+abbrev pub step_parts_said : Bytes → StepWord → List SaidPart → List Branch → Result RuleStep RuleFault
 step_parts_said place step_word.Put parts branches =
     two_said place parts >>= (λ both. Ok (rule.put both.0 both.1))
 step_parts_said place step_word.Del parts branches = one_said place parts >>= (λ e. Ok (rule.del e))
@@ -266,7 +267,7 @@ step_parts_said place step_word.If parts branches = choice_said place branches
 
 abbrev mutual
   -- a list of steps
-  pub steps_said : Bytes → Data → Result Steps RuleFault
+  pub steps_said : Bytes → Data → Result StepList RuleFault
   steps_said place null = Err (At place wrong.NoSteps)
   steps_said place (boolean b) = Err (At place wrong.NoSteps)
   steps_said place (number n) = Err (At place wrong.NoSteps)
@@ -275,12 +276,12 @@ abbrev mutual
   steps_said place (object ms) = Err (At place wrong.NoSteps)
 
   -- steps of which the first has the number n
-  pub list_said : Bytes → ℕ → Items → Result Steps RuleFault
+  pub list_said : Bytes → ℕ → Items → Result StepList RuleFault
   list_said place n no_items = Ok rule.no_steps
   list_said place n (item d ds) = step_said (item_at place n) d
       >>= (λ s. list_said place (n + 1) ds >>= (λ ss. Ok (rule.step s ss)))
 
-  pub step_said : Bytes → Data → Result Step RuleFault
+  pub step_said : Bytes → Data → Result RuleStep RuleFault
   step_said place null = Err (At place wrong.NoStep)
   step_said place (boolean b) = Err (At place wrong.NoStep)
   step_said place (number n) = Err (At place wrong.NoStep)
@@ -289,9 +290,9 @@ abbrev mutual
   step_said place (object ms) = Err (At place wrong.NoStep)
 
   -- a word and its parts
-  pub step_words_said : Bytes → Items → Result Step RuleFault
+  pub step_words_said : Bytes → Items → Result RuleStep RuleFault
   step_words_said place no_items = Err (At place wrong.NoWord)
-  step_words_said place (item w ds) = known place step_word_of w
+  step_words_said place (item w ds) = known_word place step_word_of w
       >>= (λ word. step_parts_said place word (parts_of place 1 ds) (branches_of place 1 ds))
 
   -- parts of which the first has the number n
@@ -303,7 +304,7 @@ abbrev mutual
 -- ---- rules
 
 -- the rule of a name
-abbrev pub rule_said : Bytes → Data → Result (Bytes × Steps) RuleFault
+abbrev pub rule_said : Bytes → Data → Result (Bytes × StepList) RuleFault
 rule_said name d = steps_said (member_at [] name) d >>= (λ ss. Ok (name, ss))
 
 abbrev pub named_said : Members → Result Rules RuleFault
@@ -319,13 +320,13 @@ value_said (string s) = Err NotObject
 value_said (array ds) = Err NotObject
 value_said (object ms) = named_said ms
 
-abbrev pub or_not_json : Option Data → Result Data RuleFault
-or_not_json None = Err NotJson
-or_not_json (Some d) = Ok d
+abbrev pub json_or_fault : Option Data → Result Data RuleFault
+json_or_fault None = Err NotJson
+json_or_fault (Some d) = Ok d
 
 -- the rules that a text says
 unfoldable pub rules_said : Bytes → Result Rules RuleFault
-rules_said text = or_not_json (value_read (reading text)) >>= value_said
+rules_said text = json_or_fault (value_read (reading text)) >>= value_said
 
 -- those that a text says which may be left out: no bytes are no rules
 abbrev pub rules_or_none : Bytes → Result Rules RuleFault

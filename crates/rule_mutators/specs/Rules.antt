@@ -15,29 +15,29 @@ mutual
     or : Expression → Expression → Expression
     two : Two → Expression → Expression → Expression
     cat : Expressions → Expression
-    object : Fields → Expression
+    object : ObjectFields → Expression
 
   pub data Expressions : Type 0 where
     no_expressions : Expressions
     expression : Expression → Expressions → Expressions
 
-  pub data Fields : Type 0 where
-    no_fields : Fields
-    member : Bytes → Expression → Fields → Fields
+  pub data ObjectFields : Type 0 where
+    no_fields : ObjectFields
+    member : Bytes → Expression → ObjectFields → ObjectFields
 
 mutual
-  pub data Step : Type 0 where
-    put : Expression → Expression → Step
-    del : Expression → Step
-    merge : Expression → Expression → Step
+  pub data RuleStep : Type 0 where
+    put : Expression → Expression → RuleStep
+    del : Expression → RuleStep
+    merge : Expression → Expression → RuleStep
     -- refuses with the code where the expression is false
-    need : Expression → ℕ → Step
-    choice : Expression → Steps → Steps → Step
+    need : Expression → ℕ → RuleStep
+    choice : Expression → StepList → StepList → RuleStep
 
-  pub data Steps : Type 0 where
-    no_steps : Steps
-    step : Step → Steps → Steps
+  pub data StepList : Type 0 where
+    no_steps : StepList
+    step : RuleStep → StepList → StepList
 
 -- rules by name
 abbrev pub Rules : Type 0
-Rules = List (Bytes × Steps)
+Rules = List (Bytes × StepList)

@@ -75,9 +75,9 @@ pub enum RuleFault {
 
 impl fmt::Display for RuleFault {
     ghost use Rattle.std.specs.Prelude.{Some};
-    ghost use Rattle.rule_mutators.specs.Faults.{fault_text};
+    ghost use Rattle.rule_mutators.specs.Faults.{rules_fault_text};
 
-    ghost output = { λ fault. Some (fault_text fault) };
+    ghost output = { λ fault. Some (rules_fault_text fault) };
 
     fn fmt<W: fmt::Write>(&self, f: &mut fmt::Formatter<W>) -> fmt::Result {
         match self {

@@ -61,29 +61,29 @@ impl Drop for Expr {
     }
 }
 
-pub(crate) enum Step {
+pub(crate) enum RuleStep {
     Put(Expr, Expr),
     Del(Expr),
     Merge(Expr, Expr),
     /// Refuses with the code where the expression is false.
     Need(Expr, u32),
-    If(Expr, Vec<Step>, Vec<Step>),
+    If(Expr, Vec<RuleStep>, Vec<RuleStep>),
 }
 
-impl Drop for Step {
+impl Drop for RuleStep {
     fn drop(self) {
         match self {
-            Step::Put(key, e) => {
+            RuleStep::Put(key, e) => {
                 drop(key);
                 drop(e);
             }
-            Step::Del(key) => drop(key),
-            Step::Merge(key, e) => {
+            RuleStep::Del(key) => drop(key),
+            RuleStep::Merge(key, e) => {
                 drop(key);
                 drop(e);
             }
-            Step::Need(e, _) => drop(e),
-            Step::If(e, yes, other) => {
+            RuleStep::Need(e, _) => drop(e),
+            RuleStep::If(e, yes, other) => {
                 drop(e);
                 drop(yes);
                 drop(other);
@@ -95,7 +95,7 @@ impl Drop for Step {
 /// Rules by name, as they were read.
 #[derive(Drop)]
 pub struct Rules {
-    pub(crate) rules: Vec<(Text, Vec<Step>)>,
+    pub(crate) rules: Vec<(Text, Vec<RuleStep>)>,
 }
 
 impl Rules {
@@ -113,7 +113,7 @@ impl Rules {
     }
 
     /// The steps of the rule of this name.
-    pub(crate) fn steps_of(&self, name: &str) -> Option<&Vec<Step>>
+    pub(crate) fn steps_of(&self, name: &str) -> Option<&Vec<RuleStep>>
         ensures { option_map (λ steps. all_steps steps.now.items) result ≡ steps_named name.now (rules_of self.now) }
     {
         for rule in &self.rules {

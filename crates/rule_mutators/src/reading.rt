@@ -5,7 +5,7 @@
 //! of either.
 ghost use Rattle.std.specs.Prelude.{Err, Result};
 ghost use Rattle.serde_json.specs.View.{view as data_of, members_view};
-ghost use Rattle.rule_mutators.specs.Answers.{AnswersSeen};
+ghost use Rattle.rule_mutators.specs.Answers.{ReadsSeen};
 ghost use Rattle.rule_mutators.specs.Reading as spec;
 ghost use Rattle.rule_mutators.specs.Views.{rule_of, rules_of};
 
@@ -14,7 +14,7 @@ mod parts;
 mod steps;
 
 use crate::faults::RuleFault;
-use crate::language::{Rules, Step};
+use crate::language::{RuleStep, Rules};
 use crate::places::member_at;
 use group_history::{Refusal, Text, read_value};
 use serde_json::{Map, Value};
@@ -27,7 +27,7 @@ impl Rules {
     /// place. NoMemory may come in place of any answer.
     #[tactic(auto, unfolding(crate::specs::Reading::rules_said))]
     pub fn read(alloc: Global, text: &[u8]) -> Result<Rules, RuleFault>
-        ensures { AnswersSeen rules_of result (spec.rules_said text.now) }
+        ensures { ReadsSeen rules_of result (spec.rules_said text.now) }
     {
         let value = match read_value(alloc, text) {
             Ok(value) => value,
@@ -45,7 +45,7 @@ impl Rules {
 
 /// The rules of an object.
 fn read_named(alloc: Global, members: &Map<String, Value>) -> Result<Rules, RuleFault>
-    ensures { AnswersSeen rules_of result (spec.named_said (members_view members.now.entries)) }
+    ensures { ReadsSeen rules_of result (spec.named_said (members_view members.now.entries)) }
 {
     let mut rules = Vec::new(alloc);
     for (name, value) in members.iter() {
@@ -55,8 +55,8 @@ fn read_named(alloc: Global, members: &Map<String, Value>) -> Result<Rules, Rule
 }
 
 /// The rule of a name.
-fn read_rule(alloc: Global, name: &str, value: &Value) -> Result<(Text, Vec<Step>), RuleFault>
-    ensures { AnswersSeen rule_of result (spec.rule_said name.now (data_of value.now)) }
+fn read_rule(alloc: Global, name: &str, value: &Value) -> Result<(Text, Vec<RuleStep>), RuleFault>
+    ensures { ReadsSeen rule_of result (spec.rule_said name.now (data_of value.now)) }
 {
     let at = member_at(alloc, "", name)?;
     let steps = read_steps(alloc, at.as_str(), value);

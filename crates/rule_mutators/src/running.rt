@@ -12,7 +12,7 @@ ghost use Rattle.rule_mutators.specs.Rules as rule;
 ghost use Rattle.rule_mutators.specs.Views.{expression_of, step_of, all_steps};
 
 use crate::evaluating::{RuleCall, key_at, truth_at, value_at};
-use crate::language::{Expr, Step};
+use crate::language::{Expr, RuleStep};
 use crate::values::{kept, merged, value_there};
 use group_history::{Json, Ran, Stop, Update, WriteView};
 use serde_json::Value;
@@ -26,7 +26,7 @@ const WRONG: u32 = 1;
 pub(crate) fn run_steps<V: WriteView>(
     call: RuleCall<'_>,
     view: &mut V,
-    steps: &Vec<Step>,
+    steps: &Vec<RuleStep>,
 ) -> Result<Ran, Stop>
     ensures ran { IfOk result (λ ran. RunsAs
         (spec.steps_mean (all_steps steps.now.items) (data_of call.entry.args.now) (V.contents view.old)) ran
@@ -43,18 +43,18 @@ pub(crate) fn run_steps<V: WriteView>(
 }
 
 #[cycle(steps)]
-fn run_step<V: WriteView>(call: RuleCall<'_>, view: &mut V, step: &Step) -> Result<Ran, Stop>
+fn run_step<V: WriteView>(call: RuleCall<'_>, view: &mut V, step: &RuleStep) -> Result<Ran, Stop>
     ensures ran { IfOk result (λ ran. RunsAs
         (spec.step_means (step_of step.now) (data_of call.entry.args.now) (V.contents view.old)) ran
         (V.contents view.new)) }
     ensures stopped { IfErr result (MayStop V.stops) }
 {
     match step {
-        Step::Put(key, e) => put(call, view, key, e),
-        Step::Del(key) => del(call, view, key),
-        Step::Merge(key, e) => merge(call, view, key, e),
-        Step::Need(e, code) => need(call, view, e, *code),
-        Step::If(e, yes, other) => match truth_at(call, view, e) {
+        RuleStep::Put(key, e) => put(call, view, key, e),
+        RuleStep::Del(key) => del(call, view, key),
+        RuleStep::Merge(key, e) => merge(call, view, key, e),
+        RuleStep::Need(e, code) => need(call, view, e, *code),
+        RuleStep::If(e, yes, other) => match truth_at(call, view, e) {
             Ok(Some(true)) => run_steps(call, view, yes),
             Ok(Some(false)) => run_steps(call, view, other),
             Ok(None) => Ok(Ran::Refused(WRONG)),

@@ -1,6 +1,6 @@
 //! Tells a host what is wrong with the rules that it gives.
 ghost use Rattle.std.specs.Prelude.{◌≡◌, ◌<◌, ◌^◌, IfOk, OnErr, OnOk, length};
-ghost use Rattle.rule_mutators.specs.Answers.{AnswersSeen};
+ghost use Rattle.rule_mutators.specs.Answers.{ReadsSeen};
 ghost use Rattle.rule_mutators.specs.Faults.{fault_told, laid_over};
 ghost use Rattle.rule_mutators.specs.Reading.{rules_or_none};
 ghost use Rattle.rule_mutators.specs.Views.{rules_of};
@@ -12,7 +12,7 @@ use std::alloc::{AllocError, Global};
 impl Rules {
     /// The rules that a text says, as `read` has them; no bytes are no rules.
     pub fn read_or_none(alloc: Global, text: &[u8]) -> Result<Rules, RuleFault>
-        ensures { AnswersSeen rules_of result (rules_or_none text.now) }
+        ensures { ReadsSeen rules_of result (rules_or_none text.now) }
     {
         if text.is_empty() {
             return Ok(Rules::none(alloc));

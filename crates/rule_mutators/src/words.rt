@@ -28,7 +28,7 @@ pub(crate) enum StepWord {
 
 /// The word of an expression that a text is.
 pub(crate) fn word_of(text: &str) -> Option<Word>
-    ensures { result ≡ spec.word_of text.now }
+    ensures { result ≡ spec.rule_word_of text.now }
 {
     if let Some(word) = one_word(text) {
         return Some(word);

@@ -21,8 +21,8 @@ key_not_there = 2
 abbrev pub other_kind : ℕ
 other_kind = 3
 
-abbrev pub out_of_range : ℕ
-out_of_range = 4
+abbrev pub code_out_of_range : ℕ
+code_out_of_range = 4
 
 -- the one member
 abbrev pub one_item : Items → Option Data
@@ -85,7 +85,7 @@ incr_means args m =
     needs wrong_arguments (text_and_number args) (λ a.
     needs key_not_there (finite.get m a.0) (λ there.
     needs other_kind (option_and_then number_of (value_of there)) (λ n.
-    needs out_of_range (sum_of n a.1) (λ sum.
+    needs code_out_of_range (sum_of n a.1) (λ sum.
     done (finite.insert m a.0 (signed_decimal sum))))))
 
 -- the text at a key, followed by another

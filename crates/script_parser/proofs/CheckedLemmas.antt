@@ -20,8 +20,8 @@ use Rattle.script_parser.specs.Words.{word, more, is_number, is_ticket_name}
 use Rattle.script_parser.specs.Words.{text as text_of}
 use Rattle.script_parser.specs.Context.{Context, Lines, nothing_said, place_of}
 use Rattle.script_parser.specs.Header.{group_line, profile_line, schema_line, slots_line, client_line, header_line}
-use Rattle.script_parser.specs.Header.{with_client}
-use Rattle.script_parser.specs.Commands.{Told, phase_line, get_line, has_line, scan_words, with_part, scan_line}
+use Rattle.script_parser.specs.Header.{with_new_client}
+use Rattle.script_parser.specs.Commands.{CommandSaid, phase_line, get_line, has_line, scan_words, with_part, scan_line}
 use Rattle.script_parser.specs.Commands.{begin_line, end_line, watch_line, mutate_line, learn_line}
 use Rattle.script_parser.specs.Commands.{push_line, skip_word, pulled_get, pulled_scan, pulled_command}
 use Rattle.script_parser.specs.Commands.{pulled_line, sent_line}
@@ -226,7 +226,7 @@ Sound-line c n client k sound learns =
           (λ lines known. All-push (λ line. LearnsWithin many line.1) lines (n, k) known learns) all) sound.learnt;
     }
 
-said_by-sound : (n client : ℕ) (told : Told) → IfOk told SoundWith → IfOk (said_by n client told) Sound
+said_by-sound : (n client : ℕ) (told : CommandSaid) → IfOk told SoundWith → IfOk (said_by n client told) Sound
 said_by-sound n client (Ok (c, k)) sound = Sound-line c n client k sound.0 sound.1
 said_by-sound n client (Err f) sound = tt
 
@@ -293,7 +293,7 @@ slots_line-sound c rest sound = search (rules, IfOk-if, Sound-slots)
 
 -- a client more, before the first phase
 Sound-client : (c : Context) (name id : Bytes) → Sound c → c.phases ≡ []
-    → nat_lt (length c.clients) max_seats ≡ true → Sound (with_client name id c)
+    → nat_lt (length c.clients) max_seats ≡ true → Sound (with_new_client name id c)
 Sound-client c name id sound before room =
     let many = length (c.clients ++ (name, id) ∷ []) in
     let below : length c.clients < max_seats = ltb-true _ _ room in

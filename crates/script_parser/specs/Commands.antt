@@ -22,15 +22,15 @@ phase_line c rest = meets ((is_none rest, fault.BadWords) ∷ [])
     (record c { phases = c.phases ++ replicate (length c.clients) [] ∷ [] })
 
 -- what a client's line says: what is said with it too, and its command
-abbrev pub Told : Type 0
-Told = Result (Context × Command) ScriptFault
+abbrev pub CommandSaid : Type 0
+CommandSaid = Result (Context × Command) ScriptFault
 
 -- `get KEY`
-unfoldable pub get_line : Context → Option Bytes → Told
+unfoldable pub get_line : Context → Option Bytes → CommandSaid
 get_line c rest = meets ((is_some rest, fault.BadWords) ∷ []) (c, command.Query (query.Get (text rest)))
 
 -- `has KEY`
-unfoldable pub has_line : Context → Option Bytes → Told
+unfoldable pub has_line : Context → Option Bytes → CommandSaid
 has_line c rest = meets ((is_some rest, fault.BadWords) ∷ []) (c, command.Query (query.Has (text rest)))
 
 -- `PREFIX START LIMIT`: a scan
@@ -50,16 +50,16 @@ scan_words rest =
     })
 
 -- what a line says that has such a part
-abbrev pub with_part : {X : Type 0} → (X → Context × Command) → Result X ScriptFault → Told
+abbrev pub with_part : {X : Type 0} → (X → Context × Command) → Result X ScriptFault → CommandSaid
 with_part said (Ok x) = Ok (said x)
 with_part said (Err f) = Err f
 
 -- `scan PREFIX START LIMIT`
-unfoldable pub scan_line : Context → Option Bytes → Told
+unfoldable pub scan_line : Context → Option Bytes → CommandSaid
 scan_line c rest = with_part (λ scan. (c, command.Query (query.Scan scan))) (scan_words rest)
 
 -- `watch W PREFIX START LIMIT`
-unfoldable pub watch_line : Context → ℕ → Option Bytes → Told
+unfoldable pub watch_line : Context → ℕ → Option Bytes → CommandSaid
 watch_line c client rest =
     let name = word (text rest) in
     let number = number_made client name c.watches in
@@ -69,7 +69,7 @@ watch_line c client rest =
     else Err fault.BadWords
 
 -- `begin T`
-unfoldable pub begin_line : Context → ℕ → Option Bytes → Told
+unfoldable pub begin_line : Context → ℕ → Option Bytes → CommandSaid
 begin_line c client rest =
     meets ((is_some rest, fault.BadWords) ∷ (is_ticket_name (text rest), fault.BadWords) ∷ []) (
       record c { tickets = noted client (text rest) c.tickets },
@@ -77,7 +77,7 @@ begin_line c client rest =
     )
 
 -- `end T BODY`
-unfoldable pub end_line : Context → ℕ → Option Bytes → Told
+unfoldable pub end_line : Context → ℕ → Option Bytes → CommandSaid
 end_line c client rest =
     let ticket = word (text rest) in
     let number = number_of client ticket c.tickets in
@@ -101,32 +101,32 @@ skip_word t =
     meets ((is_word t, fault.BadWords) ∷ (is_number 0 (2 ^ 64 - 1) t, fault.BadNumber) ∷ []) (digits_value 10 t)
 
 -- `push`, or `push N`: but for the oldest N
-abbrev pub push_line : Context → Option Bytes → Told
+abbrev pub push_line : Context → Option Bytes → CommandSaid
 push_line c None = Ok (c, command.Query (query.Push 0))
 push_line c (Some t) = with_part (λ n. (c, command.Query (query.Push n))) (skip_word t)
 
 -- `pulled get KEY`
-unfoldable pub pulled_get : Context → Option Bytes → Told
+unfoldable pub pulled_get : Context → Option Bytes → CommandSaid
 pulled_get c rest = meets ((is_some rest, fault.BadWords) ∷ []) (c, command.Query (query.PulledGet (text rest)))
 
 -- `pulled scan PREFIX START LIMIT`
-unfoldable pub pulled_scan : Context → Option Bytes → Told
+unfoldable pub pulled_scan : Context → Option Bytes → CommandSaid
 pulled_scan c rest = with_part (λ scan. (c, command.Query (query.PulledScan scan))) (scan_words rest)
 
 -- what is asked of what the server last sent, by its name and what follows
-unfoldable pub pulled_command : Context → Bytes → Option Bytes → Told
+unfoldable pub pulled_command : Context → Bytes → Option Bytes → CommandSaid
 pulled_command c name rest =
     if same_text name (codes "get") then pulled_get c rest
     else if same_text name (codes "scan") then pulled_scan c rest
     else Err fault.UnknownCommand
 
 -- `pulled NAME ..`: a missing name is unknown
-unfoldable pub pulled_line : Context → Option Bytes → Told
+unfoldable pub pulled_line : Context → Option Bytes → CommandSaid
 pulled_line c None = Err fault.UnknownCommand
 pulled_line c (Some rest) = pulled_command c (word rest) (more rest)
 
 -- `mutate TIME MUTATOR ARGS`
-unfoldable pub mutate_line : Context → Option Bytes → Told
+unfoldable pub mutate_line : Context → Option Bytes → CommandSaid
 mutate_line c rest =
     let after_time = text (more (text rest)) in
     let args = more after_time in
@@ -144,7 +144,7 @@ mutate_line c rest =
     )
 
 -- `learn NAME`: from the client at this name's place
-unfoldable pub learn_line : Context → Option Bytes → Told
+unfoldable pub learn_line : Context → Option Bytes → CommandSaid
 learn_line c rest =
     meets ((is_some rest, fault.BadWords) ∷ (is_client_name (text rest), fault.BadWords)
     ∷ (is_some (place_of (text rest) c.clients), fault.UnknownName) ∷ [])
@@ -170,23 +170,23 @@ bare_command name =
     else reading_command name
 
 -- such a command, where there is one
-abbrev pub told_bare : Context → Option Command → Option Bytes → Told
+abbrev pub told_bare : Context → Option Command → Option Bytes → CommandSaid
 told_bare c None rest = Err fault.UnknownCommand
 told_bare c (Some said) rest = meets ((is_none rest, fault.BadWords) ∷ []) (c, said)
 
 -- any other command
-unfoldable pub bare_line : Context → Bytes → Option Bytes → Told
+unfoldable pub bare_line : Context → Bytes → Option Bytes → CommandSaid
 bare_line c name rest = told_bare c (bare_command name) rest
 
 -- what the server sent, and what it is to be sent; or a command that takes no words
-unfoldable pub sent_line : Context → Bytes → Option Bytes → Told
+unfoldable pub sent_line : Context → Bytes → Option Bytes → CommandSaid
 sent_line c name rest =
     if same_text name (codes "push") then push_line c rest
     else if same_text name (codes "pulled") then pulled_line c rest
     else bare_line c name rest
 
 -- a command that makes no ticket or watch and needs none, by its name and what follows
-unfoldable pub look_line : Context → Bytes → Option Bytes → Told
+unfoldable pub look_line : Context → Bytes → Option Bytes → CommandSaid
 look_line c name rest =
     if same_text name (codes "get") then get_line c rest
     else if same_text name (codes "has") then has_line c rest
@@ -196,7 +196,7 @@ look_line c name rest =
     else sent_line c name rest
 
 -- what is done with a watch that an earlier line made; or another command
-unfoldable pub watched_line : Context → ℕ → Bytes → Option Bytes → Told
+unfoldable pub watched_line : Context → ℕ → Bytes → Option Bytes → CommandSaid
 watched_line c client name rest =
     if same_text name (codes "poll") then with_part (λ n. (c, command.Poll n)) (watch_word c client rest)
     else if same_text name (codes "changes") then with_part (λ n. (c, command.Changes n)) (watch_word c client rest)
@@ -204,7 +204,7 @@ watched_line c client name rest =
     else look_line c name rest
 
 -- a command of the client at a place, by its name and what follows
-unfoldable pub named_command : Context → ℕ → Bytes → Option Bytes → Told
+unfoldable pub named_command : Context → ℕ → Bytes → Option Bytes → CommandSaid
 named_command c client name rest =
     if same_text name (codes "begin") then begin_line c client rest
     else if same_text name (codes "end") then end_line c client rest
@@ -212,7 +212,7 @@ named_command c client name rest =
     else watched_line c client name rest
 
 -- what a client's line has after its name: a missing command is unknown
-unfoldable pub command_of : Context → ℕ → Option Bytes → Told
+unfoldable pub command_of : Context → ℕ → Option Bytes → CommandSaid
 command_of c client None = Err fault.UnknownCommand
 command_of c client (Some rest) = named_command c client (word rest) (more rest)
 
@@ -221,7 +221,7 @@ unfoldable pub with_line : ℕ → ℕ × Command → List (List Lines) → List
 with_line client line phases = changed_at (length phases - 1) (changed_at client (λ lines. lines ++ line ∷ [])) phases
 
 -- what is said with such a line of this number too
-abbrev pub said_by : ℕ → ℕ → Told → Result Context ScriptFault
+abbrev pub said_by : ℕ → ℕ → CommandSaid → Result Context ScriptFault
 said_by n client (Ok (c, command)) = Ok (record c { phases = with_line client (n, command) c.phases })
 said_by n client (Err f) = Err f
 

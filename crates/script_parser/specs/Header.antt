@@ -35,8 +35,8 @@ slots_line c rest =
     (record c { slots = Some (digits_value 10 (text rest)) })
 
 -- a client more, whose lines made no ticket and no watch
-abbrev pub with_client : Bytes → Bytes → Context → Context
-with_client name id c = record c {
+abbrev pub with_new_client : Bytes → Bytes → Context → Context
+with_new_client name id c = record c {
   clients = c.clients ++ (name, id) ∷ [];
   tickets = c.tickets ++ [] ∷ [];
   watches = c.watches ++ [] ∷ [];
@@ -52,7 +52,7 @@ client_line c rest =
     ∷ (is_none (place_of name c.clients), fault.SaidTwice)
     ∷ (nat_lt (length c.clients) max_seats, fault.TooManyClients)
     ∷ [])
-    (with_client name (uuid_said id) c)
+    (with_new_client name (uuid_said id) c)
 
 -- a line before the first phase, by its first word and what follows
 unfoldable pub header_line : Context → Bytes → Option Bytes → Result Context ScriptFault

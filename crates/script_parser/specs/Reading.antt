@@ -33,10 +33,10 @@ kept_by reader = context_of reader.parser
 
 -- What a line of this number asks. Nothing: the phases are as they were. A phase: there is one more. A command of the
 -- client at a place, where there is a phase: it is the last line of that client in the last one.
-abbrev pub AsksFor : ℕ → Context → LineKind → Context → Type 0
-AsksFor n c asked.Nothing said = said.phases ≡ c.phases
-AsksFor n c asked.Phase said = said.phases ≡ c.phases ++ new_phase (length c.clients) ∷ []
-AsksFor n c (asked.Command client l) said =
+abbrev pub LineAsks : ℕ → Context → LineKind → Context → Type 0
+LineAsks n c asked.Nothing said = said.phases ≡ c.phases
+LineAsks n c asked.Phase said = said.phases ≡ c.phases ++ new_phase (length c.clients) ∷ []
+LineAsks n c (asked.Command client l) said =
     (0 < length c.phases) × (client < length c.clients) × (l.number ≡ n)
     × (said.phases ≡ with_line client (line_said l) c.phases)
 
@@ -44,13 +44,13 @@ AsksFor n c (asked.Command client l) said =
 -- is kept without lines. A faulty one: its fault, and nothing more is kept; where memory is refused, nothing is either.
 abbrev pub TakesAs : Result Context ScriptFault → ℕ → Context → Result LineKind LineFault → Context → Type 0
 TakesAs right n c (Ok asked) kept =
-    (said : Context) × (right ≡ Ok said) × AsksFor n c asked said × (kept ≡ without_lines said)
+    (said : Context) × (right ≡ Ok said) × LineAsks n c asked said × (kept ≡ without_lines said)
 TakesAs right n c (Err (line.Script f)) kept = (right ≡ Err f) × (kept ≡ c)
 TakesAs right n c (Err line.NoMemory) kept = kept ≡ c
 
 -- these bytes are taken as a line of this number
-abbrev pub Takes : ℕ → Bytes → Context → Result LineKind LineFault → Context → Type 0
-Takes n l c taken kept = TakesAs (bytes_said_with c n l) n c taken kept
+abbrev pub TakesLine : ℕ → Bytes → Context → Result LineKind LineFault → Context → Type 0
+TakesLine n l c taken kept = TakesAs (bytes_said_with c n l) n c taken kept
 
 -- the header is what was said
 pub record IsHeader (said : Context) (header : Header) : Type 0 where

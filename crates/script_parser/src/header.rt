@@ -19,7 +19,7 @@ const FEWEST_SLOTS: u64 = 16;
 
 impl Parser {
     ghost use Rattle.script_parser.specs.Header.{group_line, profile_line, schema_line, slots_line, client_line};
-    ghost use Rattle.script_parser.specs.Header.{header_line, with_client};
+    ghost use Rattle.script_parser.specs.Header.{header_line, with_new_client};
     ghost use Rattle.script_parser.specs.Inside.Faults.{Heads};
     ghost use Rattle.script_parser.specs.Inside.Header.{admitted};
 
@@ -119,7 +119,7 @@ impl Parser {
     /// Adds a client. Where memory is refused nothing has changed: what is pushed behind the client has room by then.
     fn add_client(&mut self, client: ClientLine) -> Result<(), AllocError>
         ensures added { OnOk result (context_of self.new
-            ≡ with_client client.name (hyphenated_text lower client.id) (context_of self.old)) }
+            ≡ with_new_client client.name (hyphenated_text lower client.id) (context_of self.old)) }
         ensures left { OnErr result (context_of self.new ≡ context_of self.old) }
     {
         self.tickets.reserve()?;

@@ -29,7 +29,7 @@ impl Drop for LineReader {
 impl LineReader {
     ghost use Rattle.script_parser.specs.Context.{nothing_said};
     ghost use Rattle.script_parser.specs.Faults.{said_with};
-    ghost use Rattle.script_parser.specs.Reading.{IsHeader, Takes, TakesAs, kept_by};
+    ghost use Rattle.script_parser.specs.Reading.{IsHeader, TakesLine, TakesAs, kept_by};
 
     /// A reader that has taken no line.
     pub fn new(alloc: Global) -> LineReader
@@ -43,7 +43,7 @@ impl LineReader {
     /// Takes a line of this number, counted from 1, without its line feed, and answers what it asks. Where it is
     /// faulty, or memory is refused, the reader is as it was. From the first phase on no client is added.
     pub fn take(&mut self, number: u64, line: &[u8]) -> Result<LineKind, LineFault>
-        ensures taken { Takes number line.now (kept_by self.old) result (kept_by self.new) }
+        ensures taken { TakesLine number line.now (kept_by self.old) result (kept_by self.new) }
         ensures clients { 0 < length (kept_by self.old).phases
             → (kept_by self.new).clients ≡ (kept_by self.old).clients }
         ensures begun { 0 < length (kept_by self.old).phases → 0 < length (kept_by self.new).phases }

@@ -22,7 +22,7 @@ use Rattle.script_runner.specs.Commanding.{LearnsFirst, MayTell, Player}
 use Rattle.script_runner.specs.Settling.{AreSteady, IsWhole}
 use Rattle.script_runner.specs.Inside.Records.{IsClientOf}
 use Rattle.script_runner.specs.Plain.{IsDone, IsPlainlyTold, plain, plain_sitting}
-use Rattle.script_runner.specs.Plain.{reading_at, reading_behind, reading_of}
+use Rattle.script_runner.specs.Plain.{reading_at, reading_behind, client_reading}
 use Rattle.script_runner.specs.Sights.{seen_behind, sight_at}
 use Rattle.script_runner.proofs.Plainly.{plainly}
 use Rattle.script_runner.proofs.Reading.{has_read, learns_none}
@@ -77,7 +77,7 @@ module _ (means : Meanings) (sights : List (Option Known)) (x : Command) (seen :
       let is = plainly means seen exact.old exact.new mid next t exact.sat k.calm exact.there exact.exact sights x
       may in
       let kept = keeps seen place mid c exact.old sat exact.sat learnt in
-      let none : reading_at place ≡ None = ap (option_map reading_of) calm.1 in
+      let none : reading_at place ≡ None = ap (option_map client_reading) calm.1 in
       record {
         client = c;
         there = ap (λ o. option_or o place.reading) sat;
@@ -94,7 +94,7 @@ module _ (means : Meanings) (sights : List (Option Known)) (x : Command) (seen :
   plain_read is none is_open may =
       let h = has_read means c place next t none is_open is.calm old sights x
       (subst (λ p. MayTell means sights x p t next) (learns_none seen place mid none learnt) may) in
-      let some : reading_at place ≡ Some (reading_of c) = ap (option_map reading_of) is_open in
+      let some : reading_at place ≡ Some (client_reading c) = ap (option_map client_reading) is_open in
       record {
         client = c;
         there = ap (λ o. option_or o place.reading) none ∙ is_open;

@@ -25,7 +25,7 @@ use Rattle.script_parser.specs.Scripts.{IsChecked, IsScript, client_said, phase_
 use Rattle.head_word.specs.declared.entry.Entry.{Entry}
 use Rattle.script_runner.specs.declared.phase.ClientTurn.{ClientTurn}
 use Rattle.script_runner.specs.Commanding.{Player}
-use Rattle.script_runner.specs.Phases.{AreWritten, HasWhole, HasWritten}
+use Rattle.script_runner.specs.Phases.{AreWritten, HasWhole, HasWrittenPhases}
 use Rattle.script_runner.specs.Records.{IsRecordOf}
 use Rattle.script_runner.specs.Runs.{AreNewPlayers, HasPlayed, HasStopped, IsNewPlayer, header_identity, id_at}
 use Rattle.script_runner.specs.Runs.{identity_of, mark_at}
@@ -214,7 +214,7 @@ module _ {M : Type 0} (turns : List (ClientTurn M)) (script : Script)
   -- so are they at the end
   pub closed_seated : (slice closed : List (ClientTurn M)) (phases : List Phase) (old after : Option Bytes)
       → slice ≡ turns
-      → HasWritten script_means (players_of slice) (map phase_said phases) old after (players_of closed)
+      → HasWrittenPhases script_means (players_of slice) (map phase_said phases) old after (players_of closed)
       → AreSeated (seats_for (length (players_of turns))) new.commit (players_of closed)
   closed_seated slice closed phases old after is ran =
       written script_means (seats_for (length (players_of turns))) new.commit (players_of slice) (map phase_said phases)
@@ -222,7 +222,8 @@ module _ {M : Type 0} (turns : List (ClientTurn M)) (script : Script)
 
   -- at the end the record is there, if there are clients
   pub one_found : {X : Type 0} (slice closed : List (ClientTurn M)) (phases : List Phase) (old after : Option Bytes)
-      → slice ≡ turns → HasWritten script_means (players_of slice) (map phase_said phases) old after (players_of closed)
+      → slice ≡ turns
+      → HasWrittenPhases script_means (players_of slice) (map phase_said phases) old after (players_of closed)
       → ((count commit : ℕ) → AreSeated count commit (players_of closed) → count ≡ length closed → 0 < length closed
       → X)
       → 0 < length (players_of closed) → X
@@ -239,7 +240,7 @@ module _ {M : Type 0} (turns : List (ClientTurn M)) (script : Script)
   -- a run to the end
   pub has_run : (slice : List (ClientTurn M)) (phases : List Phase) (closed : List Player) (said : Context)
       (old after : Option Bytes) → slice ≡ turns → phases ≡ script.phases.items → IsScript said script
-      → HasWritten script_means (players_of slice) (map phase_said phases) old after closed
+      → HasWrittenPhases script_means (players_of slice) (map phase_said phases) old after closed
       → (0 < length closed → (book : List Entry) × IsRecordOf script_means closed book)
       → HasPlayed said old after
   has_run slice phases closed said old after is so script_is ran one = record {

@@ -41,7 +41,7 @@ use Rattle.client_desk.specs.declared.faults.CallFault.{CallFault}
 use Rattle.client_desk.specs.declared.faults.CallFault.TheVariants as fault
 use Rattle.client_desk.specs.declared.outcomes.Outcome.TheVariants.{Done, Faulty, Number}
 use Rattle.client_desk.specs.Answers.{AsksAs, At, BeginsPull, ByClient, CountsBy, CountsFree, EndsReading, IsBegun}
-use Rattle.client_desk.specs.Answers.{AnswersLack, Polls, read_by}
+use Rattle.client_desk.specs.Answers.{AnswersLack, Polls, read_by_client}
 use Rattle.client_desk.specs.Answers.{PollsChanges, AnswersRead, Refreshes, TellsChanges, TellsMoment, TellsMomentAs}
 use Rattle.client_desk.specs.Answers.{AnswersQuery as Queries}
 use Rattle.client_desk.specs.Answers.{Rule, Unwatches, Watches, absent, made_room, tries}
@@ -64,7 +64,7 @@ use Rattle.script_runner.specs.Answering.{moment_seen, record_seen}
 use Rattle.script_runner.specs.Inside.Exact.{IsExact}
 use Rattle.script_runner.specs.Commanding.{AsksDesk, AsksQuery, LearnsFirst, MayTell, learnt_by}
 use Rattle.script_runner.specs.Plain.{IsDone, Plain, changed, counted, ended, if_kept, looked, mutated}
-use Rattle.script_runner.specs.Plain.{plain_sitting, query_told, reading_at, reading_behind, reading_of}
+use Rattle.script_runner.specs.Plain.{plain_sitting, query_told, reading_at, reading_behind, client_reading}
 use Rattle.script_runner.specs.Sights.{sight_at}
 use Rattle.script_runner.proofs.Reading.{missed_wants}
 use Rattle.script_runner.proofs.Seated.{begins_reading, caught_up, leaves_none, sits_none}
@@ -392,7 +392,7 @@ module _ (means : Meanings) (seen : Option Known) (c d : ClientState) (b a : Pla
   by_begin_read call.BeginRead asked h = elim (begins_reading means c b t a sat calm h) [
     | inl r ↦
         let there : client_at a ≡ Some r.reader = ap client_at r.left in
-        let state : read_by r.reader ≡ now =
+        let state : read_by_client r.reader ≡ now =
         ap after ((exact_at r.reader there).point None r.reader.seat.mark.log r.point) in
         let number : moment r.reader.seat.mark.log ≡ moment_seen (sight_at a) =
         sym (ap (λ o. moment_seen (option_map sight_of o)) there) in (
@@ -408,7 +408,7 @@ module _ (means : Meanings) (seen : Option Known) (c d : ClientState) (b a : Pla
         (l.refusal, missed_wants l.refusal (inr l.missed), l.told),
         still l.next (ap (λ (p : PlaceState). p.client) l.left) l.stays.0.looked.own,
       ),
-      ap (λ (p : PlaceState). reading_at p) l.left ∙ ap (option_map reading_of) calm.1
+      ap (λ (p : PlaceState). reading_at p) l.left ∙ ap (option_map client_reading) calm.1
           ∙ sym (ap (λ (w : Told). reading_behind now (moment_seen (sight_at a)) None command.BeginRead w.outcome)
           l.told),
     )
@@ -424,7 +424,7 @@ module _ (means : Meanings) (seen : Option Known) (c d : ClientState) (b a : Pla
             let e = subst (λ o. At o fault.NotRead EndsReading b t a) calm.1 done in (
               only_told (told_alone (Faulty fault.NotRead)) e.0
                   (still c (ap (λ (q : PlaceState). q.client) e.1 ∙ sat) refl),
-              ap (λ (p : PlaceState). reading_at p) e.1 ∙ ap (option_map reading_of) calm.1
+              ap (λ (p : PlaceState). reading_at p) e.1 ∙ ap (option_map client_reading) calm.1
                   ∙ sym (ap (λ (w : Told). reading_behind now (moment_seen (sight_at a)) None command.EndRead w.outcome)
                   e.0),
             )
@@ -433,7 +433,7 @@ module _ (means : Meanings) (seen : Option Known) (c d : ClientState) (b a : Pla
 
   -- the client of another call sits at its place still
   sits_still : (made : DeskCall) → IsSitting made → MayAnswerWaiting means made b t a → reading_at a ≡ None
-  sits_still made is h = ap (option_map reading_of) (remains means c b a t sat calm made is h).2.1
+  sits_still made is h = ap (option_map client_reading) (remains means c b a t sat calm made is h).2.1
 
   makes_still : (x : Command) → (AsksDesk x call.BeginRead → ⊥) → (made : DeskCall) → AsksDesk x made
       → MayAnswerWaiting means made b t a → reading_at a ≡ None
@@ -443,7 +443,7 @@ module _ (means : Meanings) (seen : Option Known) (c d : ClientState) (b a : Pla
   makes_still x none other asked h = sits_still other tt h
 
   learns_still : (sight : Option Known) → LearnsFirst sight b a → reading_at a ≡ None
-  learns_still sight h = ap (option_map reading_of) (caught_up c sight b a sat calm h).calm.1
+  learns_still sight h = ap (option_map client_reading) (caught_up c sight b a sat calm h).calm.1
 
   no_query : (q : Query) → AsksQuery q call.BeginRead → ⊥
   no_query (query.Get key) h = h

@@ -32,7 +32,7 @@ use Rattle.client_desk.specs.Answers.{AsksAs, At, BeginsPull, ByClient, CountsFr
 use Rattle.client_desk.specs.Answers.{EndsReading, AnswersLack, MayBeginReading}
 use Rattle.client_desk.specs.Answers.{Polls, PollsChanges, Refreshes, Rule, TellsMomentAs, Unwatches}
 use Rattle.client_desk.specs.Answers.{AnswersQuery as Queries}
-use Rattle.client_desk.specs.Answers.{Watches, absent, made_room, read_by}
+use Rattle.client_desk.specs.Answers.{Watches, absent, made_room, read_by_client}
 use Rattle.client_desk.specs.Calls.{AnswersCalm, MayAnswerAt}
 use Rattle.client_desk.specs.Kept.{kept_at}
 use Rattle.client_desk.specs.Learning.{LearnsAt}
@@ -48,7 +48,7 @@ use Rattle.script_parser.specs.declared.script.Query.TheVariants as query
 use Rattle.script_runner.specs.Commanding.{AsksDesk, AsksQuery, LearnsFirst, MayTell, learnt_by}
 use Rattle.script_runner.specs.Inside.Records.{IsClientOf}
 use Rattle.script_runner.specs.Plain.{IsDone, Plain, if_kept, looked, plain_reading, query_told}
-use Rattle.script_runner.specs.Plain.{reading_at, reading_behind, reading_of}
+use Rattle.script_runner.specs.Plain.{reading_at, reading_behind, client_reading}
 
 -- why a query is refused that a reading answers
 pub missed_wants : (e : Refusal) → IsStoreOrMemory ⊤ e → is_resource_refusal e ≡ true
@@ -82,17 +82,17 @@ learns_none (Some other) before after none h = subst (λ o. LearnsAt o other bef
 -- what it had, and reads what it should
 pub record HasRead (means : Meanings) (r : ClientState) (b a : PlaceState) (t : Told) (old : List Change) (x : Command)
     : Type 0 where
-  pub done : IsDone (plain_reading means (caller_of r) b.watches (reading_of r) x) t old old
+  pub done : IsDone (plain_reading means (caller_of r) b.watches (client_reading r) x) t old old
   pub next : ClientState
   pub is : IsClientOf next a
   pub seat : IsSameSeat r.seat next.seat
   pub mark : next.seat.mark ≡ r.seat.mark
-  pub reads : (s : State) (n : ℕ) → reading_at a ≡ reading_behind s n (Some (reading_of r)) x t.outcome
+  pub reads : (s : State) (n : ℕ) → reading_at a ≡ reading_behind s n (Some (client_reading r)) x t.outcome
 
 module _ (means : Meanings) (r : ClientState) (b a : PlaceState) (t : Told) (none : b.client ≡ None)
     (opened : b.reading ≡ Some r) (calm : b.asking ≡ None) (old : List Change) where
   abbrev the : Command → Plain
-  the x = plain_reading means (caller_of r) b.watches (reading_of r) x
+  the x = plain_reading means (caller_of r) b.watches (client_reading r) x
 
   -- nothing is changed there
   abbrev Is : Plain → Type 0
@@ -136,54 +136,56 @@ module _ (means : Meanings) (r : ClientState) (b a : PlaceState) (t : Told) (non
   kept_told tell x (Err e) is refused told same = (inr ((e, missed_wants e refused, told), refl), same)
 
   by_reading : {X : Type 0} (tell : X → Told) (right : ClientState → State → X) → Queries tell right means b t a
-      → Is (looked (tell (right r (read_by r))))
+      → Is (looked (tell (right r (read_by_client r))))
   by_reading tell right h =
       let k = subst (λ o. AsksAs tell right means o b t a) opened h in
-      kept_told tell (right r (read_by r)) k.0.reply k.0.answer k.0.refused k.0.told (ap who k.1)
+      kept_told tell (right r (read_by_client r)) k.0.reply k.0.answer k.0.refused k.0.told (ap who k.1)
 
   by_query : (q : Query) (made : DeskCall) → AsksQuery q made → MayAnswerWaiting means made b t a
-      → Is (looked (query_told means (read_by r) (caller_of r) q))
+      → Is (looked (query_told means (read_by_client r) (caller_of r) q))
   by_query (query.Get key) (call.Get k) asked h =
-      subst (λ x. Is (looked (value_told (get_at means (read_by r) x)))) asked
-      (by_calm (call.Get k) (looked (value_told (get_at means (read_by r) k.now)))
+      subst (λ x. Is (looked (value_told (get_at means (read_by_client r) x)))) asked
+      (by_calm (call.Get k) (looked (value_told (get_at means (read_by_client r) k.now)))
       (by_reading value_told (λ x s. get_at means s k.now)) h)
   by_query (query.Get key) other asked h = absurd asked
   by_query (query.Has key) (call.Has k) asked h =
-      subst (λ x. Is (looked (is_told (has_at means (read_by r) x)))) asked
-      (by_calm (call.Has k) (looked (is_told (has_at means (read_by r) k.now)))
+      subst (λ x. Is (looked (is_told (has_at means (read_by_client r) x)))) asked
+      (by_calm (call.Has k) (looked (is_told (has_at means (read_by_client r) k.now)))
       (by_reading is_told (λ x s. has_at means s k.now)) h)
   by_query (query.Has key) other asked h = absurd asked
   by_query (query.Scan scan) (call.Scan k) asked h =
-      subst (λ x. Is (looked (rows_told (view_rows means (read_by r) x)))) asked
-      (by_calm (call.Scan k) (looked (rows_told (view_rows means (read_by r) k.now)))
+      subst (λ x. Is (looked (rows_told (view_rows means (read_by_client r) x)))) asked
+      (by_calm (call.Scan k) (looked (rows_told (view_rows means (read_by_client r) k.now)))
       (by_reading rows_told (λ x s. view_rows means s k.now)) h)
   by_query (query.Scan scan) other asked h = absurd asked
   by_query query.Empty call.Empty asked h =
-      by_calm call.Empty (looked (is_told (is_empty_at means (read_by r))))
+      by_calm call.Empty (looked (is_told (is_empty_at means (read_by_client r))))
       (by_reading is_told (λ x s. is_empty_at means s)) h
   by_query query.Empty other asked h = absurd asked
   by_query query.Closed call.Closed asked h =
-      by_calm call.Closed (looked (is_told (read_by r).closed)) (by_reading is_told (λ x s. s.closed)) h
+      by_calm call.Closed (looked (is_told (read_by_client r).closed)) (by_reading is_told (λ x s. s.closed)) h
   by_query query.Closed other asked h = absurd asked
   by_query query.Pending call.Pending asked h =
-      by_calm call.Pending (looked (pending_told (read_by r).pending)) (by_reading pending_told (λ x s. s.pending)) h
+      by_calm call.Pending (looked (pending_told (read_by_client r).pending))
+      (by_reading pending_told (λ x s. s.pending)) h
   by_query query.Pending other asked h = absurd asked
   by_query query.Cookie call.Cookie asked h =
-      by_calm call.Cookie (looked (cookie_told (read_by r).cookie)) (by_reading cookie_told (λ x s. s.cookie)) h
+      by_calm call.Cookie (looked (cookie_told (read_by_client r).cookie)) (by_reading cookie_told (λ x s. s.cookie)) h
   by_query query.Cookie other asked h = absurd asked
   by_query (query.Push n) (call.Push skip) asked h =
-      subst (λ k. Is (looked (bytes_told (push_text r.group.identity (drop k (read_by r).pending))))) asked
-      (by_calm (call.Push skip) (looked (bytes_told (push_text r.group.identity (drop skip (read_by r).pending))))
+      subst (λ k. Is (looked (bytes_told (push_text r.group.identity (drop k (read_by_client r).pending))))) asked
+      (by_calm (call.Push skip)
+      (looked (bytes_told (push_text r.group.identity (drop skip (read_by_client r).pending))))
       (by_reading bytes_told (λ x s. push_text x.group.identity (drop skip s.pending))) h)
   by_query (query.Push n) other asked h = absurd asked
   by_query (query.PulledGet key) (call.PulledGet k) asked h =
-      subst (λ x. Is (looked (value_told (finite.get (read_by r).pulled x)))) asked
-      (by_calm (call.PulledGet k) (looked (value_told (finite.get (read_by r).pulled k.now)))
+      subst (λ x. Is (looked (value_told (finite.get (read_by_client r).pulled x)))) asked
+      (by_calm (call.PulledGet k) (looked (value_told (finite.get (read_by_client r).pulled k.now)))
       (by_reading value_told (λ x s. finite.get s.pulled k.now)) h)
   by_query (query.PulledGet key) other asked h = absurd asked
   by_query (query.PulledScan scan) (call.PulledScan k) asked h =
-      subst (λ x. Is (looked (rows_told (rows_of x (read_by r).pulled)))) asked
-      (by_calm (call.PulledScan k) (looked (rows_told (rows_of k.now (read_by r).pulled)))
+      subst (λ x. Is (looked (rows_told (rows_of x (read_by_client r).pulled)))) asked
+      (by_calm (call.PulledScan k) (looked (rows_told (rows_of k.now (read_by_client r).pulled)))
       (by_reading rows_told (λ x s. rows_of k.now s.pulled)) h)
   by_query (query.PulledScan scan) other asked h = absurd asked
 
@@ -257,7 +259,7 @@ module _ (means : Meanings) (r : ClientState) (b a : PlaceState) (t : Told) (non
 
   -- the place has its reading still
   still : (x : Command)
-      → ((s : State) (n : ℕ) → Some (reading_of r) ≡ reading_behind s n (Some (reading_of r)) x t.outcome)
+      → ((s : State) (n : ℕ) → Some (client_reading r) ≡ reading_behind s n (Some (client_reading r)) x t.outcome)
       → Is (the x) → HasRead means r b a t old x
   still x reads is = record {
     done = is.0;
@@ -268,7 +270,7 @@ module _ (means : Meanings) (r : ClientState) (b a : PlaceState) (t : Told) (non
     };
     seat = same_seat r.seat;
     mark = refl;
-    reads = λ s n. ap (λ w. option_map reading_of w.2) is.1 ∙ ap (option_map reading_of) opened ∙ reads s n;
+    reads = λ s n. ap (λ w. option_map client_reading w.2) is.1 ∙ ap (option_map client_reading) opened ∙ reads s n;
   }
 
   by_begin_read : (made : DeskCall) → AsksDesk command.BeginRead made → MayAnswerWaiting means made b t a
@@ -280,7 +282,8 @@ module _ (means : Meanings) (r : ClientState) (b a : PlaceState) (t : Told) (non
             let told = subst (λ o. At o (absent b.reading) (MayBeginReading means) b t a) none done in
             let is : t ≡ told_alone (Faulty fault.Reads) = told.0 ∙ ap (λ o. told_alone (Faulty (absent o))) opened in
             still command.BeginRead
-            (λ s n. sym (ap (λ (w : Told). reading_behind s n (Some (reading_of r)) command.BeginRead w.outcome) is))
+            (λ s n. sym
+            (ap (λ (w : Told). reading_behind s n (Some (client_reading r)) command.BeginRead w.outcome) is))
             (only_told (told_alone (Faulty fault.Reads)) is (ap who told.1))
       ]
   by_begin_read other asked h = absurd asked
@@ -297,7 +300,7 @@ module _ (means : Meanings) (r : ClientState) (b a : PlaceState) (t : Told) (non
     seat = e.stays.0.looked.seat;
     mark = e.mark;
     reads = λ s n. ap (λ (p : PlaceState). reading_at p) e.left
-        ∙ sym (ap (λ (w : Told). reading_behind s n (Some (reading_of r)) command.EndRead w.outcome) e.told);
+        ∙ sym (ap (λ (w : Told). reading_behind s n (Some (client_reading r)) command.EndRead w.outcome) e.told);
   }
 
   by_end_read : (made : DeskCall) → AsksDesk command.EndRead made → MayAnswerWaiting means made b t a

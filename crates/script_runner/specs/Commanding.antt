@@ -84,7 +84,7 @@ pub record MayLearn (sights : List (Option Known)) (place : ℕ) (before : Place
 -- In a group whose mutators mean this.
 module _ (means : Meanings) where
   -- the call is made that the command is; a change waits for others
-  pub record Makes (c : Command) (before : PlaceState) (t : Told) (after : PlaceState) : Type 0 where
+  pub record MakesCall (c : Command) (before : PlaceState) (t : Told) (after : PlaceState) : Type 0 where
     pub made : DeskCall
     pub asked : AsksDesk c made
     pub may : MayAnswerWaiting means made before t after
@@ -93,7 +93,7 @@ module _ (means : Meanings) where
   -- when the phase began.
   abbrev pub MayTell : List (Option Known) → Command → PlaceState → Told → PlaceState → Type 0
   MayTell sights (command.Learn place) before t after = MayLearn sights place before t after
-  MayTell sights c before t after = Makes c before t after
+  MayTell sights c before t after = MakesCall c before t after
 
   -- and what it may print
   pub record MayPrint (sights : List (Option Known)) (before : Player) (c : Command) (text : Bytes)

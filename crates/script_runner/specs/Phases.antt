@@ -43,8 +43,9 @@ module _ (means : Meanings) where
       × (text ≡ concat texts ++ rest) × AreWritten mid ps rest after
 
   -- the bytes that are known grew by that text
-  abbrev pub HasWritten : List Player → List (List Lines) → Option Bytes → Option Bytes → List Player → Type 0
-  HasWritten before phases old new after = (text : Bytes) × AreWritten before phases text after × Appends old new text
+  abbrev pub HasWrittenPhases : List Player → List (List Lines) → Option Bytes → Option Bytes → List Player → Type 0
+  HasWrittenPhases before phases old new after = (text : Bytes) × AreWritten before phases text after
+      × Appends old new text
 
   -- the bytes that are known grew by the text of so many whole phases
   abbrev pub HasWhole : List Player → List (List Lines) → Option Bytes → Option Bytes → Type 0

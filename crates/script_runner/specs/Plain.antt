@@ -32,7 +32,7 @@ use Rattle.rebase.specs.Counting.{SlotCounts}
 use Rattle.rebase.specs.Queries.{asked_at}
 use Rattle.rebase.specs.Watching.{Watched, poll_at}
 use Rattle.rebase.specs.declared.watching.Polled.{Polled}
-use Rattle.client_desk.specs.Answers.{TellsChanges, read_by}
+use Rattle.client_desk.specs.Answers.{TellsChanges, read_by_client}
 use Rattle.client_desk.specs.declared.faults.CallFault.{CallFault}
 use Rattle.client_desk.specs.declared.faults.CallFault.TheVariants.{NoTicket, NotRead, NoWatch, Reads}
 use Rattle.client_desk.specs.declared.outcomes.Outcome.{Outcome}
@@ -53,12 +53,12 @@ pub record Reading : Type 0 where
   pub number : ℕ
 
 -- what a client reads
-abbrev pub reading_of : ClientState → Reading
-reading_of reader = record { state = read_by reader; number = moment reader.seat.mark.log }
+abbrev pub client_reading : ClientState → Reading
+client_reading reader = record { state = read_by_client reader; number = moment reader.seat.mark.log }
 
 -- what the open reading of a place reads
 abbrev pub reading_at : PlaceState → Option Reading
-reading_at place = option_map reading_of place.reading
+reading_at place = option_map client_reading place.reading
 
 -- what may be told, and the change of the group that it stands for
 pub record Plain : Type 1 where

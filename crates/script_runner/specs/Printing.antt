@@ -74,11 +74,11 @@ abbrev pub refused_text : Refusal → Bytes
 refused_text e = codes "refused " ++ refusal_name e ++ refusal_detail e
 
 -- what a place lacks, or has open: a client is there, and its group asks for no run
-abbrev pub fault_text : CallFault → Bytes
-fault_text NoWatch = codes "no watch"
-fault_text Reads = codes "reads"
-fault_text NotRead = codes "no reading"
-fault_text other = codes "no ticket"
+abbrev pub call_fault_text : CallFault → Bytes
+call_fault_text NoWatch = codes "no watch"
+call_fault_text Reads = codes "reads"
+call_fault_text NotRead = codes "no reading"
+call_fault_text other = codes "no ticket"
 
 -- what a command came to
 abbrev pub outcome_text : Command → Outcome → Bytes
@@ -88,7 +88,7 @@ outcome_text c Nothing = nothing_word c
 outcome_text c (Is is) = bool_text is
 outcome_text c Asked = []
 outcome_text c (Refused e) = refused_text e
-outcome_text c (Faulty fault) = fault_text fault
+outcome_text c (Faulty fault) = call_fault_text fault
 
 -- and what it told
 abbrev pub told_text : Command → Told → Bytes

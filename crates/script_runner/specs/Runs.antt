@@ -38,13 +38,13 @@ abbrev pub header_identity : Header → Identity
 header_identity header = identity_of header.group header.profile header.schema
 
 -- a client's ID, where there is one
-abbrev pub id_of : Option ClientState → Bytes
-id_of (Some client) = client.id
-id_of None = []
+abbrev pub id_of_client : Option ClientState → Bytes
+id_of_client (Some client) = client.id
+id_of_client None = []
 
 -- that of the client that sits at a place
 abbrev pub id_at : PlaceState → Bytes
-id_at place = id_of place.client
+id_at place = id_of_client place.client
 
 -- how many seats a group has for so many clients: one where there are none
 abbrev pub seats_for : ℕ → ℕ

@@ -1,7 +1,7 @@
 //! A client of a script: its name, and the place at which it sits.
 ghost use Rattle.std.specs.Prelude.{◌≡◌, []};
 ghost use Rattle.client_desk.specs.Told.{told, told_alone};
-ghost use Rattle.script_runner.specs.Commanding.{AsksDesk, AsksMutation, AsksQuery, Makes, MayLearn, MayTell};
+ghost use Rattle.script_runner.specs.Commanding.{AsksDesk, AsksMutation, AsksQuery, MakesCall, MayLearn, MayTell};
 ghost use Rattle.script_runner.specs.Sights.{CanLearnAll};
 ghost use Rattle.script_runner.specs.Inside.Players.{IsSamePlayer, player_of};
 
@@ -86,7 +86,7 @@ impl<M: Mutators + Drop> ScriptClient<M> {
     ) -> Outcome
         requires asked { AsksDesk command.now call }
         requires empty { bytes.old.items ≡ [] }
-        ensures told { Makes M.means command.now self.old.place (told result bytes.new.items) self.new.place }
+        ensures told { MakesCall M.means command.now self.old.place (told result bytes.new.items) self.new.place }
         ensures same { IsSamePlayer self.old self.new }
     {
         let _ = command;

@@ -11,7 +11,7 @@ ghost use Rattle.script_parser.specs.Faults.{Checks, first_fault, script_said};
 ghost use Rattle.script_parser.specs.Context.{Context};
 ghost use Rattle.script_parser.specs.Kept.{IsInRange};
 ghost use Rattle.script_parser.specs.Scripts.{IsChecked, IsScript, client_said, phase_said};
-ghost use Rattle.script_runner.specs.Phases.{HasWhole, HasWritten, IsPhase};
+ghost use Rattle.script_runner.specs.Phases.{HasWhole, HasWrittenPhases, IsPhase};
 ghost use Rattle.script_runner.specs.Runs.{AreNewPlayers, BlamesNoScript, HasRunScript, HasStoppedScript, IsRunWant};
 ghost use Rattle.script_runner.specs.Runs.{KeepsIfFaulty, header_identity, mark_at, seats_for};
 ghost use Rattle.script_runner.specs.Inside.Players.{AreLeftOf, AreNewIn, IsNewIn, line_of, players_of};
@@ -88,7 +88,7 @@ fn run_phases<R: Threads + Wait + Sync, G: Gate, M: Mutators + Send + Drop, W: i
 ) -> Result<(), Fault>
     requires lines { All (λ p. p.clients ≡ length turns.old) phases.now }
     requires one { AreOfOneGroup turns.old }
-    ensures written { OnOk result (HasWritten M.means (players_of turns.old) (map phase_said phases.now)
+    ensures written { OnOk result (HasWrittenPhases M.means (players_of turns.old) (map phase_said phases.now)
         (W.contents out.old) (W.contents out.new) (players_of turns.new)) }
     ensures want { IsRunWant result → HasWhole M.means (players_of turns.old) (map phase_said phases.now)
         (W.contents out.old) (W.contents out.new) }

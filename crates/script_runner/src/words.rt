@@ -3,7 +3,7 @@
 ghost use Rattle.std.specs.Prelude.{◌≡◌, ◌++◌, decimal, OnOk};
 ghost use Rattle.group_history.specs.Refusals.{refusal_name};
 ghost use Rattle.client_desk.specs.Told.{told};
-ghost use Rattle.script_runner.specs.Printing.{done_word, fault_text, line_text, nothing_word, number_text};
+ghost use Rattle.script_runner.specs.Printing.{done_word, call_fault_text, line_text, nothing_word, number_text};
 ghost use Rattle.script_runner.specs.Printing.{outcome_text, query_word, refusal_detail, refused_text, told_text};
 
 use client_desk::{CallFault, Outcome};
@@ -108,7 +108,7 @@ fn print_refusal(refusal: Refusal, out: &mut Vec<u8>) -> Result<(), AllocError>
 
 // What a place lacks, or has open.
 fn fault_text(fault: CallFault) -> &'static str
-    ensures { result.now ≡ fault_text fault }
+    ensures { result.now ≡ call_fault_text fault }
 {
     match fault {
         CallFault::NoWatch => "no watch",

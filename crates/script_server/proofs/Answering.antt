@@ -11,12 +11,12 @@ use Rattle.script_parser.specs.declared.script.LineKind.TheVariants as asked
 use Rattle.script_parser.specs.declared.script.Line.{Line}
 use Rattle.script_parser.specs.Context.{Context, Lines}
 use Rattle.script_parser.specs.Kept.{bare, new_phase, without_lines}
-use Rattle.script_parser.specs.Reading.{AsksFor, bytes_said_with}
+use Rattle.script_parser.specs.Reading.{LineAsks, bytes_said_with}
 use Rattle.script_parser.specs.Scripts.{line_said}
 use Rattle.script_runner.specs.Phases.{all_sights}
 use Rattle.script_runner.proofs.Lines.{told_plain}
 use Rattle.script_server.specs.Answers.{Answers, AnswersBy, BeginsPhase, Does, OpensGroup, Says, given_before}
-use Rattle.script_server.specs.Answers.{behind_rules, given_in, ok_text, rules_given}
+use Rattle.script_server.specs.Answers.{behind_rules, given_in, ok_text, rules_of_line}
 use Rattle.script_server.specs.Standing.{Standing, means_in}
 use Rattle.script_server.specs.declared.heads.HeaderLine.{HeaderLine}
 use Rattle.script_server.specs.declared.heads.HeaderLine.TheVariants as head
@@ -25,12 +25,12 @@ use Rattle.script_server.specs.Inside.Stages.{IsPlaced, WhereWhole}
 
 -- ---- rules
 
-pub given-text : (line : Bytes) → IsUtf8 line → rules_given line ≡ behind_rules line
-unfolding rules_given
+pub given-text : (line : Bytes) → IsUtf8 line → rules_of_line line ≡ behind_rules line
+unfolding rules_of_line
 given-text line utf8 = rw (is_utf8-from_IsUtf8 line utf8)
 
-pub given-bytes : (line : Bytes) → (IsUtf8 line → ⊥) → rules_given line ≡ None
-unfolding rules_given
+pub given-bytes : (line : Bytes) → (IsUtf8 line → ⊥) → rules_of_line line ≡ None
+unfolding rules_of_line
 given-bytes line other = rw (false_from_ne_true (is_utf8 line) (λ e. other (IsUtf8-from_is_utf8 line e)))
 
 -- ---- any line
@@ -43,7 +43,7 @@ answers_other n line before text after none says = subst (λ o. AnswersBy o n li
 -- a line that says something
 pub answers_said : (n : ℕ) (line : Bytes) (before : Standing) (text : Bytes) (after : Standing) (what : LineKind)
     (said : Context) → given_in before line ≡ None → bytes_said_with before.said n line ≡ Ok said
-    → AsksFor n before.said what said → Does what n before (without_lines said) text after
+    → LineAsks n before.said what said → Does what n before (without_lines said) text after
     → Answers n line before text after
 answers_said n line before text after what said none right asks does =
     answers_other n line before text after none
@@ -57,7 +57,7 @@ still_heads c said none same = ap (bare (length said.clients)) (same ∙ none)
 
 -- no command is asked there
 pub no_command : (n place : ℕ) (line : Line) (c said : Context) → c.phases ≡ []
-    → AsksFor n c (asked.Command place line) said → ⊥
+    → LineAsks n c (asked.Command place line) said → ⊥
 no_command n place line c said none asks =
     let some : 0 < length c.phases = asks.0 in
     let e : length c.phases ≡ 0 = ap length none in omega arith
@@ -83,7 +83,7 @@ begins_next before said after there is = begins_later before.said.phases before 
 
 -- the client of a command is there
 pub placed : (n : ℕ) (what : LineKind) (before : Standing) (said : Context) → IsOpen before
-    → AsksFor n before.said what said → IsPlaced what before.players
+    → LineAsks n before.said what said → IsPlaced what before.players
 placed n asked.Nothing before said there asks = tt
 placed n asked.Phase before said there asks = tt
 placed n (asked.Command place line) before said there asks =
@@ -91,7 +91,7 @@ placed n (asked.Command place line) before said there asks =
 
 -- what a line asks was done
 pub answers_done : (what : LineKind) (n : ℕ) (line : Bytes) (before : Standing) (text : Bytes) (after : Standing)
-    (said : Context) → IsOpen before → bytes_said_with before.said n line ≡ Ok said → AsksFor n before.said what said
+    (said : Context) → IsOpen before → bytes_said_with before.said n line ≡ Ok said → LineAsks n before.said what said
     → HasDone what n (record before { said = without_lines said }) text after
     → WhereWhole before after (Answers n line before text after)
 answers_done asked.Nothing n line before text after said there right asks done was all =
@@ -110,7 +110,7 @@ answers_done (asked.Command place l) n line before text after said there right a
 
 pub on_done : {E : Type 0} (what : LineKind) (r : Result (Unit {0}) E) (n : ℕ) (line : Bytes) (before : Standing)
     (text : Bytes) (after : Standing) (said : Context) → IsOpen before → bytes_said_with before.said n line ≡ Ok said
-    → AsksFor n before.said what said
+    → LineAsks n before.said what said
     → OnOk r (HasDone what n (record before { said = without_lines said }) text after)
     → OnOk r (WhereWhole before after (Answers n line before text after))
 on_done what (Ok u) n line before text after said there right asks done =
@@ -138,7 +138,7 @@ answers_first n line before mid after first opens =
 counted : {A B : Type 0} (f : A → B) (xs : List A) (ys : List B) → map f xs ≡ ys → length xs ≡ length ys
 counted f xs ys e = sym (length-map xs f) ∙ ap length e
 
-begun_by : (n : ℕ) (c said : Context) → c.phases ≡ [] → AsksFor n c asked.Phase said
+begun_by : (n : ℕ) (c said : Context) → c.phases ≡ [] → LineAsks n c asked.Phase said
     → 0 < length (without_lines said).phases
 begun_by n c said none asks =
     let one : said.phases ≡ new_phase (length c.clients) ∷ [] =
@@ -152,7 +152,7 @@ answers_head h n line read before text after is same known =
     subst (λ l. Answers n l before text after) same
     (subst (λ k. IsHead k n line before text after) is known).0
 
-pub no_command_asked : (n : ℕ) (what : LineKind) (c said : Context) → c.phases ≡ [] → AsksFor n c what said
+pub no_command_asked : (n : ℕ) (what : LineKind) (c said : Context) → c.phases ≡ [] → LineAsks n c what said
     → IsNoCommand what
 no_command_asked n asked.Nothing c said none asks = tt
 no_command_asked n asked.Phase c said none asks = tt
@@ -162,7 +162,7 @@ no_command_asked n (asked.Command place line) c said none asks = no_command n pl
 head_asked : (what : LineKind) (h : HeaderLine) (n : ℕ) (line : Bytes) (before : Standing) (text : Bytes)
     (after : Standing)
     (said : Context) → before.said.phases ≡ [] → given_in before line ≡ None
-    → bytes_said_with before.said n line ≡ Ok said → AsksFor n before.said what said
+    → bytes_said_with before.said n line ≡ Ok said → LineAsks n before.said what said
     → after ≡ record before { said = without_lines said } → IsHeadOf what n h text
     → IsHead h n line before text after
 head_asked asked.Nothing h n line before text after said none other right asks kept is =
@@ -183,7 +183,7 @@ head_asked (asked.Command place l) h n line before text after said none other ri
 
 pub heads_asked : {E : Type 0} (what : LineKind) (r : Result HeaderLine E) (n : ℕ) (line : Bytes) (before : Standing)
     (text : Bytes) (after : Standing) (said : Context) → before.said.phases ≡ [] → given_in before line ≡ None
-    → bytes_said_with before.said n line ≡ Ok said → AsksFor n before.said what said
+    → bytes_said_with before.said n line ≡ Ok said → LineAsks n before.said what said
     → after ≡ record before { said = without_lines said } → IfOk r (λ h. IsHeadOf what n h text)
     → IfOk r (λ h. IsHead h n line before text after)
 heads_asked what (Ok h) n line before text after said none other right asks kept is =

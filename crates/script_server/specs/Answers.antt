@@ -5,7 +5,7 @@ use Rattle.std.specs.List.{concat, list_any}
 use Rattle.std.specs.Str.{is_utf8}
 use Rattle.group_history.specs.Map.{Bytes, same_text}
 use Rattle.rule_mutators.specs.declared.faults.RuleFault.{RuleFault}
-use Rattle.rule_mutators.specs.Faults.{fault_text as rules_fault_text}
+use Rattle.rule_mutators.specs.Faults.{rules_fault_text as rules_fault_text}
 use Rattle.rule_mutators.specs.Reading.{rules_said}
 use Rattle.rule_mutators.specs.Rules.{Rules}
 use Rattle.script_parser.specs.declared.faults.ScriptFault.{ScriptFault}
@@ -16,7 +16,7 @@ use Rattle.script_parser.specs.declared.script.Line.{Line}
 use Rattle.script_parser.specs.Context.{Context, Lines}
 use Rattle.script_parser.specs.Faults.{fault_text}
 use Rattle.script_parser.specs.Kept.{without_lines}
-use Rattle.script_parser.specs.Reading.{AsksFor, bytes_said_with}
+use Rattle.script_parser.specs.Reading.{LineAsks, bytes_said_with}
 use Rattle.script_parser.specs.Scripts.{line_said}
 use Rattle.script_parser.specs.Words.{more, word}
 use Rattle.script_runner.specs.Answering.{IsToldAt}
@@ -50,12 +50,12 @@ unfoldable pub behind_rules : Bytes → Option (Option Bytes)
 behind_rules line = if same_text (word line) (codes "rules") then Some (more line) else None
 
 -- the same of the bytes of a line; one that is no UTF-8 gives no rules
-unfoldable pub rules_given : Bytes → Option (Option Bytes)
-rules_given line = if is_utf8 line then behind_rules line else None
+unfoldable pub rules_of_line : Bytes → Option (Option Bytes)
+rules_of_line line = if is_utf8 line then behind_rules line else None
 
 -- the same where these phases have begun: from the first one on no line does
 abbrev pub given_before : List (List Lines) → Bytes → Option (Option Bytes)
-given_before [] line = rules_given line
+given_before [] line = rules_of_line line
 given_before (p ∷ ps) line = None
 
 abbrev pub given_in : Standing → Bytes → Option (Option Bytes)
@@ -121,7 +121,7 @@ Does (asked.Command place line) n before said text after = TellsLine place line 
 abbrev pub Says : Result Context ScriptFault → ℕ → Standing → Bytes → Standing → Type 0
 Says (Err f) n before text after = (text ≡ refused_text n (fault_text f)) × (after ≡ before)
 Says (Ok said) n before text after =
-    (what : LineKind) × AsksFor n before.said what said × Does what n before (without_lines said) text after
+    (what : LineKind) × LineAsks n before.said what said × Does what n before (without_lines said) text after
 
 -- a line that gives rules, or another one
 abbrev pub AnswersBy : Option (Option Bytes) → ℕ → Bytes → Standing → Bytes → Standing → Type 0

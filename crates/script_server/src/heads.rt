@@ -5,7 +5,8 @@ ghost use Rattle.rule_mutators.specs.Reading.{rules_said};
 ghost use Rattle.rule_mutators.specs.Views.{rules_of};
 ghost use Rattle.script_parser.specs.Reading.{kept_by};
 ghost use Rattle.script_parser.specs.Words.{more, word};
-ghost use Rattle.script_server.specs.Answers.{GivesRules, behind_rules, first_rules, given_in, rules_given, rules_with};
+ghost use Rattle.script_server.specs.Answers.{GivesRules, behind_rules, first_rules, given_in, rules_of_line};
+ghost use Rattle.script_server.specs.Answers.{rules_with};
 ghost use Rattle.script_server.specs.Serving.{HasEnded};
 ghost use Rattle.script_server.specs.Inside.Stages.{AreHeads, HasTurned, IsHead, IsHeadOf, IsNoCommand, heads_stand};
 ghost use Rattle.script_server.specs.Inside.Stages.{place_of};
@@ -58,7 +59,7 @@ impl Drop for Heads {
 
 /// What follows the word `rules`, where a line begins with it: a text, or nothing.
 fn rules_given(line: &[u8]) -> Option<Option<&str>>
-    ensures { option_map option_copied result ≡ rules_given line.now }
+    ensures { option_map option_copied result ≡ rules_of_line line.now }
 {
     match str::from_utf8(line) {
         Ok(line) => behind_rules(line),

@@ -214,13 +214,7 @@ pub(crate) fn serve_phases<
     I: BufRead,
     W: Write,
     B: NamesRules + Sync + Drop,
->(
-    rt: &R,
-    heads: Heads,
-    number: u64,
-    input: &mut I,
-    out: &mut W,
-) -> Result<(), ServeEnd>
+>(rt: &R, heads: Heads, number: u64, input: &mut I, out: &mut W) -> Result<(), ServeEnd>
     requires rules { rules_in (heads_stand heads) ≡ B.rules }
     requires phase { 0 < length (heads_stand heads).said.phases }
     requires number { number < 2 ^ 64 - 1 }

@@ -1,8 +1,8 @@
 //! The texts of answers.
 ghost use Rattle.std.specs.Prelude.{◌≡◌, ◌++◌, IfOk, OnOk, Err, Result, codes, string_bytes};
 ghost use Rattle.rule_mutators.specs.declared.faults.RuleFault.{RuleFault};
-ghost use Rattle.rule_mutators.specs.Answers.{Refuses};
-ghost use Rattle.rule_mutators.specs.Faults.{fault_text};
+ghost use Rattle.rule_mutators.specs.Answers.{IsFaultOf};
+ghost use Rattle.rule_mutators.specs.Faults.{rules_fault_text};
 ghost use Rattle.rule_mutators.specs.Rules.{Rules};
 ghost use Rattle.script_server.specs.Answers.{ok_text, refused_text};
 
@@ -29,8 +29,8 @@ pub(crate) fn print_fault(text: &mut Vec<u8>, number: u64, fault: &str) -> Resul
 
 /// How it is told what is wrong with rules, where that is no want of memory.
 pub(crate) fn rules_fault(alloc: Global, fault: &RuleFault) -> Result<String, AllocError>
-    ensures told { IfOk result (λ text. string_bytes text ≡ codes "rules " ++ fault_text fault.now) }
-    ensures right { (right : Result Rules RuleFault) → Refuses fault.now right → OnOk result (right ≡ Err fault.now) }
+    ensures told { IfOk result (λ text. string_bytes text ≡ codes "rules " ++ rules_fault_text fault.now) }
+    ensures right { (right : Result Rules RuleFault) → IsFaultOf fault.now right → OnOk result (right ≡ Err fault.now) }
 {
     match fault {
         RuleFault::NoMemory => Err(AllocError),

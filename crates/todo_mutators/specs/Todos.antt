@@ -10,8 +10,8 @@ use Rattle.group_history.specs.Map.{Bytes, Entries, same_text}
 use Rattle.group_history.specs.Meaning.{Meaning, Meanings, unknown, done, needs, value_of}
 
 -- the codes with which they refuse
-abbrev pub wrong_arguments : ℕ
-wrong_arguments = 1
+abbrev pub wrong_todo_arguments : ℕ
+wrong_todo_arguments = 1
 
 abbrev pub no_such_todo : ℕ
 no_such_todo = 2
@@ -26,8 +26,8 @@ pub record Todo : Type 0 where
   pub text : Bytes
 
 -- the key of an item
-abbrev pub key_of : Bytes → Bytes
-key_of id = codes "todo/" ++ id
+abbrev pub todo_key : Bytes → Bytes
+todo_key id = codes "todo/" ++ id
 
 -- an item as a value
 abbrev pub value_with : Bool → Bytes → Data
@@ -35,8 +35,8 @@ value_with is_done text =
     object (member (codes "done") (boolean is_done) (member (codes "text") (string text) no_members))
 
 -- the JSON text of an item
-abbrev pub written : Bool → Bytes → Bytes
-written is_done text = compact_text (value_with is_done text)
+abbrev pub item_text : Bool → Bytes → Bytes
+item_text is_done text = compact_text (value_with is_done text)
 
 -- the item that a value is
 abbrev pub todo_of : Data → Option Todo
@@ -54,29 +54,29 @@ todo_at m key = todo_in (finite.get m key)
 -- `add`: the item has the text, and is not done
 unfoldable pub add_means : Data → Entries → Meaning
 add_means args m =
-    needs wrong_arguments (text_in args (codes "id")) (λ id.
-    needs wrong_arguments (text_in args (codes "text")) (λ text.
-    done (finite.insert m (key_of id) (written false text))))
+    needs wrong_todo_arguments (text_in args (codes "id")) (λ id.
+    needs wrong_todo_arguments (text_in args (codes "text")) (λ text.
+    done (finite.insert m (todo_key id) (item_text false text))))
 
 -- `toggle`: the item is done, or not done where it was
 unfoldable pub toggle_means : Data → Entries → Meaning
 toggle_means args m =
-    needs wrong_arguments (text_in args (codes "id")) (λ id.
-    needs no_such_todo (todo_at m (key_of id)) (λ todo.
-    done (finite.insert m (key_of id) (written (not todo.done) todo.text))))
+    needs wrong_todo_arguments (text_in args (codes "id")) (λ id.
+    needs no_such_todo (todo_at m (todo_key id)) (λ todo.
+    done (finite.insert m (todo_key id) (item_text (not todo.done) todo.text))))
 
 -- `rename`: the item has another text
 unfoldable pub rename_means : Data → Entries → Meaning
 rename_means args m =
-    needs wrong_arguments (text_in args (codes "id")) (λ id.
-    needs wrong_arguments (text_in args (codes "text")) (λ text.
-    needs no_such_todo (todo_at m (key_of id)) (λ todo.
-    done (finite.insert m (key_of id) (written todo.done text)))))
+    needs wrong_todo_arguments (text_in args (codes "id")) (λ id.
+    needs wrong_todo_arguments (text_in args (codes "text")) (λ text.
+    needs no_such_todo (todo_at m (todo_key id)) (λ todo.
+    done (finite.insert m (todo_key id) (item_text todo.done text)))))
 
 -- what a name means
 unfoldable pub todo_means : Meanings
 todo_means name args why m =
-    if same_text name (codes "add") then needs wrong_arguments (value_of args) (λ d. add_means d m)
-    else (if same_text name (codes "toggle") then needs wrong_arguments (value_of args) (λ d. toggle_means d m)
-    else (if same_text name (codes "rename") then needs wrong_arguments (value_of args) (λ d. rename_means d m)
+    if same_text name (codes "add") then needs wrong_todo_arguments (value_of args) (λ d. add_means d m)
+    else (if same_text name (codes "toggle") then needs wrong_todo_arguments (value_of args) (λ d. toggle_means d m)
+    else (if same_text name (codes "rename") then needs wrong_todo_arguments (value_of args) (λ d. rename_means d m)
     else unknown))

@@ -36,7 +36,7 @@ pub(crate) fn text_in<'a>(value: &'a Value, name: &str) -> Option<&'a str>
 
 /// The key of an item.
 pub(crate) fn key_of(alloc: Global, id: &str) -> Result<String, AllocError>
-    ensures { IfOk result (λ key. string_bytes key ≡ spec.key_of id.now) }
+    ensures { IfOk result (λ key. string_bytes key ≡ spec.todo_key id.now) }
 {
     format!(in alloc; "todo/{id}")
 }
@@ -76,7 +76,7 @@ fn value_with(alloc: Global, done: bool, text: &str) -> Result<Value, AllocError
 
 /// The JSON text of an item.
 pub(crate) fn written(alloc: Global, done: bool, text: &str) -> Result<Json, AllocError>
-    ensures { IfOk result (λ json. json ≡ spec.written done text.now) }
+    ensures { IfOk result (λ json. json ≡ spec.item_text done text.now) }
 {
     let value = value_with(alloc, done, text)?;
     Json::of_whole(alloc, &value)
@@ -91,7 +91,7 @@ pub(crate) fn put<V: WriteView>(
     text: &str,
 ) -> Result<(), Stop>
     ensures put { OnOk result (V.contents view.new
-        ≡ finite.insert (V.contents view.old) key.now (spec.written done text.now)) }
+        ≡ finite.insert (V.contents view.old) key.now (spec.item_text done text.now)) }
     ensures stopped { IfErr result (MayStop V.stops) }
 {
     let json = written(alloc, done, text)?;

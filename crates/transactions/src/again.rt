@@ -62,7 +62,7 @@ struct Begun {
 
 /// What is scanned again: a scan, of which these spans are known.
 #[derive(Clone, Copy)]
-struct Asked<'a> {
+struct KnownScan<'a> {
     scan: &'a Scan,
     known: &'a [Span],
 }
@@ -282,7 +282,7 @@ fn scan_beside<B: PreviousRows, C: Chunks>(
         (taken scan.now scan.now.limit (rows_or (chunk_rows (C.contents chunks.old) (stamp_of at)))) found) }
     ensures stopped { IfErr result (λ s. (s ≡ NoMemory) ⊎ C.stops s) }
 {
-    let asked = Asked {
+    let asked = KnownScan {
         scan,
         known: before.spans.as_slice(),
     };
@@ -297,7 +297,7 @@ fn take_child<B: PreviousRows, C: Chunks>(
     chunks: &mut C,
     at: Ref,
     first: &str,
-    asked: Asked<'_>,
+    asked: KnownScan<'_>,
     again: &mut Rescan<'_, B>,
 ) -> Result<(), Stop>
     requires place { C.places chunks.old at }
@@ -318,7 +318,7 @@ fn take_child<B: PreviousRows, C: Chunks>(
 fn take_shown<B: PreviousRows, C: Chunks>(
     chunks: &mut C,
     at: Ref,
-    asked: Asked<'_>,
+    asked: KnownScan<'_>,
     again: &mut Rescan<'_, B>,
 ) -> Result<(), Stop>
     requires place { C.places chunks.old at }
@@ -342,7 +342,7 @@ fn take_chunk<B: PreviousRows, C: Chunks>(
     chunks: &mut C,
     at: Ref,
     chunk: &Chunk<Ref>,
-    asked: Asked<'_>,
+    asked: KnownScan<'_>,
     again: &mut Rescan<'_, B>,
 ) -> Result<(), Stop>
     requires shown { IsShown (C.places chunks.old) (C.contents chunks.old) (stamp_of at) chunk.now }
@@ -358,7 +358,7 @@ fn take_chunk<B: PreviousRows, C: Chunks>(
             return Ok(());
         }
         Chunk::Inner(inner) => {
-            let below = Below {
+            let below = ChildRefs {
                 firsts: inner.firsts().as_slice(),
                 children: inner.children(),
             };
@@ -369,7 +369,7 @@ fn take_chunk<B: PreviousRows, C: Chunks>(
 
 // Children of a chunk, and their first keys.
 #[derive(Clone, Copy)]
-struct Below<'a> {
+struct ChildRefs<'a> {
     firsts: &'a [Text],
     children: &'a [Ref],
 }
@@ -377,8 +377,8 @@ struct Below<'a> {
 #[cycle(again)]
 fn take_children<B: PreviousRows, C: Chunks>(
     chunks: &mut C,
-    below: Below<'_>,
-    asked: Asked<'_>,
+    below: ChildRefs<'_>,
+    asked: KnownScan<'_>,
     again: &mut Rescan<'_, B>,
 ) -> Result<(), Stop>
     requires places { AreAll (C.places chunks.old) below.children.now }

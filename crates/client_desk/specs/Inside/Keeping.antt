@@ -15,7 +15,7 @@ use Rattle.client_desk.specs.declared.outcomes.Outcome.TheVariants.{Number, Refu
 use Rattle.client_desk.specs.declared.watches.Tells.{Tells}
 use Rattle.client_desk.specs.declared.watches.Tells.TheVariants as tells
 use Rattle.client_desk.specs.Answers.{Telling, TellsChanges, TellsRows, tries}
-use Rattle.client_desk.specs.Kept.{IsKeptAt, IsNumberFor, kept_at, without}
+use Rattle.client_desk.specs.Kept.{IsKeptAt, IsNumberFor, kept_at, given_up_at}
 use Rattle.client_desk.specs.Told.{Told, dry, told, told_alone}
 
 -- something is kept, under the number that is said or the first free one
@@ -40,7 +40,7 @@ Keeps keep (Err e) t old new = (t ≡ told_alone (Refused e)) × (new ≡ old)
 
 -- whether something was given up
 abbrev pub GivesUp : {X : Type 0} → Bool → ℕ → List (Option X) → List (Option X) → Type 0
-GivesUp true n old new = IsSome (kept_at old n) × (new ≡ without old n)
+GivesUp true n old new = IsSome (kept_at old n) × (new ≡ given_up_at old n)
 GivesUp false n old new = (kept_at old n ≡ None) × (new ≡ old)
 
 -- a watch is kept; or memory was refused

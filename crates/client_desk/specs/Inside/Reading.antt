@@ -14,7 +14,7 @@ use Rattle.rebase.specs.Clients.{ClientState, AfterQuery}
 use Rattle.client_desk.specs.declared.calls.DeskCall.{DeskCall}
 use Rattle.client_desk.specs.declared.calls.DeskCall.TheVariants as call
 use Rattle.client_desk.specs.declared.outcomes.Outcome.TheVariants.{Nothing}
-use Rattle.client_desk.specs.Answers.{ReadsBy, ReadsKept, moment_by, read_by, tries}
+use Rattle.client_desk.specs.Answers.{ReadsBy, ReadsKept, moment_by, read_by_client, tries}
 use Rattle.client_desk.specs.Told.{Told, bytes_told, cookie_told, is_told, pending_told, rows_told, tells}
 use Rattle.client_desk.specs.Told.{told_alone, value_told}
 
@@ -54,7 +54,7 @@ pub record ToldBy (means : Meanings) (client next : ClientState) (n m : ℕ) (t 
   pub reply : Result Told Refusal
   pub answer : IsLinearized means tries client.seat.mark next.seat.mark reply no_change (λ s. Ok (right s))
   pub point : IfOk reply (λ x. IsPoint means client.seat.mark next.seat.mark None next.seat.mark.log)
-  pub at : IfOk reply (λ x. x ≡ right (read_by next))
+  pub at : IfOk reply (λ x. x ≡ right (read_by_client next))
   pub refused : IfErr reply (IsStoreOrMemory ⊤)
   pub stays : AfterQuery ⊤ client next
   pub told : t ≡ tells (λ x. x) reply
@@ -63,7 +63,7 @@ pub record ToldBy (means : Meanings) (client next : ClientState) (n m : ℕ) (t 
 -- What an open reading told is right where it reads.
 pub record ToldKept (reader : ClientState) (n m : ℕ) (t : Told) (right : State → Told) : Type 0 where
   pub reply : Result Told Refusal
-  pub answer : IfOk reply (λ x. x ≡ right (read_by reader))
+  pub answer : IfOk reply (λ x. x ≡ right (read_by_client reader))
   pub refused : IfErr reply (IsStoreOrMemory ⊤)
   pub told : t ≡ tells (λ x. x) reply
   pub moment : m ≡ moment_by reply reader n

@@ -16,7 +16,7 @@ use map_chunks::{Chunks, TakesRows};
 
 // Children of a chunk, and their first keys.
 #[derive(Clone, Copy)]
-struct Below<'a> {
+struct OwnKids<'a> {
     firsts: &'a [Text],
     kids: &'a [OwnChild],
 }
@@ -45,7 +45,7 @@ impl OwnNode {
                 return Ok(left);
             }
             Body::Inner(kids) => {
-                let below = Below {
+                let below = OwnKids {
                     firsts: self.keys.as_slice(),
                     kids,
                 };
@@ -58,7 +58,7 @@ impl OwnNode {
 #[cycle(own)]
 fn scan_kids<C: Chunks, S: TakesRows>(
     chunks: &mut C,
-    below: Below<'_>,
+    below: OwnKids<'_>,
     scan: &Scan,
     room: Option<u64>,
     sink: &mut S,

@@ -4,7 +4,7 @@ ghost use Rattle.serde_json.specs.Data.{string};
 ghost use Rattle.pull_patch.specs.Inside.Plain.{ReadsValue, ReadsText, PassesValue};
 
 use super::copies::copy_text;
-use super::room::{Names, Room};
+use super::room::{NameOrder, Room};
 use super::stops::PlainStop;
 use super::trees::read_tree;
 use group_history::{Json, Refusal, read_value};
@@ -61,7 +61,7 @@ fn read_by_copy(alloc: Global, reader: &mut Reader<'_>, room: &mut Room) -> Resu
 {
     let plain = copy_text(alloc, reader, 124, &mut room.text)?;
     if !plain {
-        room.names = Names::Vary;
+        room.names = NameOrder::Vary;
         return match Json::read(alloc, &room.text) {
             Ok(json) => Ok(json),
             Err(refusal) => Err(stop_of(refusal)),
@@ -79,7 +79,7 @@ pub(crate) fn read_json(
     ensures read { IfOk result (λ t. ReadsText reader.old t reader.new) }
     ensures shorter { OnOk result (length reader.new < length reader.old) }
 {
-    if let Names::Ascend = room.names {
+    if let NameOrder::Ascend = room.names {
         return read_by_copy(alloc, reader, room);
     }
     let mut ascends = true;
@@ -103,7 +103,7 @@ fn pass_by_copy(
     if plain {
         return Ok(());
     }
-    room.names = Names::Vary;
+    room.names = NameOrder::Vary;
     match read_value(alloc, &room.text) {
         Ok(value) => {
             drop(value);
@@ -124,7 +124,7 @@ pub(crate) fn pass_value(
     ensures read { OnOk result (PassesValue depth reader.old reader.new) }
     ensures shorter { OnOk result (length reader.new < length reader.old) }
 {
-    if let Names::Vary = room.names {
+    if let NameOrder::Vary = room.names {
         let mut ascends = true;
         let value = read_tree(alloc, reader, depth, &mut ascends)?;
         drop(value);

@@ -2,7 +2,7 @@
 use Rattle.std.specs.Prelude.{List}
 use Rattle.serde_json.specs.Data.{Items, no_items, item}
 use Rattle.group_history.specs.Map.{Bytes}
-use Rattle.rule_mutators.specs.Reading.{Part, Branch, parts_of, branches_of}
+use Rattle.rule_mutators.specs.Reading.{SaidPart, Branch, parts_of, branches_of}
 
 -- what stands behind the word
 abbrev pub behind_word : Items → Items
@@ -10,7 +10,7 @@ behind_word no_items = no_items
 behind_word (item w ds) = ds
 
 -- its parts, and its parts as those of an `if`
-abbrev pub parts_behind : Bytes → Items → List Part
+abbrev pub parts_behind : Bytes → Items → List SaidPart
 parts_behind place ds = parts_of place 1 (behind_word ds)
 
 abbrev pub branches_behind : Bytes → Items → List Branch

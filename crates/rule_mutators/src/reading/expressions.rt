@@ -1,7 +1,7 @@
 //! Reads expressions.
 ghost use Rattle.std.specs.Prelude.{◌≡◌, Ok, IfOk};
 ghost use Rattle.serde_json.specs.View.{view as data_of, items_view, members_view};
-ghost use Rattle.rule_mutators.specs.Answers.{AnswersSeen};
+ghost use Rattle.rule_mutators.specs.Answers.{ReadsSeen};
 ghost use Rattle.rule_mutators.specs.Inside.Parts.{parts_behind};
 ghost use Rattle.rule_mutators.specs.Reading as spec;
 ghost use Rattle.rule_mutators.specs.Rules as rule;
@@ -19,7 +19,7 @@ use std::alloc::{AllocError, Global};
 /// The expression that a value is.
 #[cycle(expression)]
 pub(crate) fn read_expression(alloc: Global, place: &str, value: &Value) -> Result<Expr, RuleFault>
-    ensures { AnswersSeen expression_of result (spec.expression_said place.now (data_of value.now)) }
+    ensures { ReadsSeen expression_of result (spec.expression_said place.now (data_of value.now)) }
 {
     match value {
         Value::Array(items) => read_words(alloc, place, items.as_slice()),
@@ -31,7 +31,7 @@ pub(crate) fn read_expression(alloc: Global, place: &str, value: &Value) -> Resu
 /// A word and its parts.
 #[cycle(expression)]
 fn read_words(alloc: Global, place: &str, items: &[Value]) -> Result<Expr, RuleFault>
-    ensures { AnswersSeen expression_of result (spec.words_said place.now (items_view items.now)) }
+    ensures { ReadsSeen expression_of result (spec.words_said place.now (items_view items.now)) }
 {
     if items.is_empty() {
         return Err(fault(alloc, place, Wrong::NoWord));
@@ -42,7 +42,7 @@ fn read_words(alloc: Global, place: &str, items: &[Value]) -> Result<Expr, RuleF
 
 #[cycle(expression)]
 fn read_parts(alloc: Global, place: &str, word: Word, items: &[Value]) -> Result<Expr, RuleFault>
-    ensures { AnswersSeen expression_of result (spec.parts_said place.now word
+    ensures { ReadsSeen expression_of result (spec.parts_said place.now word
         (parts_behind place.now (items_view items.now))) }
 {
     match word {
@@ -57,25 +57,25 @@ fn read_parts(alloc: Global, place: &str, word: Word, items: &[Value]) -> Result
 }
 
 fn or(alloc: Global, both: (Expr, Expr)) -> Result<Expr, RuleFault>
-    ensures { AnswersSeen expression_of result (Ok (rule.or (expression_of both.0) (expression_of both.1))) }
+    ensures { ReadsSeen expression_of result (Ok (rule.or (expression_of both.0) (expression_of both.1))) }
 {
     Ok(Expr::Or(Box::new(alloc, both)?))
 }
 
 fn one(alloc: Global, word: One, part: Expr) -> Result<Expr, RuleFault>
-    ensures { AnswersSeen expression_of result (Ok (rule.one word (expression_of part))) }
+    ensures { ReadsSeen expression_of result (Ok (rule.one word (expression_of part))) }
 {
     Ok(Expr::One(word, Box::new(alloc, part)?))
 }
 
 fn two(alloc: Global, word: Two, both: (Expr, Expr)) -> Result<Expr, RuleFault>
-    ensures { AnswersSeen expression_of result (Ok (rule.two word (expression_of both.0) (expression_of both.1))) }
+    ensures { ReadsSeen expression_of result (Ok (rule.two word (expression_of both.0) (expression_of both.1))) }
 {
     Ok(Expr::Two(word, Box::new(alloc, both)?))
 }
 
 fn read_argument(alloc: Global, place: &str, items: &[Value]) -> Result<Expr, RuleFault>
-    ensures { AnswersSeen expression_of result
+    ensures { ReadsSeen expression_of result
         (spec.argument_said place.now (parts_behind place.now (items_view items.now))) }
 {
     let part = one_part(alloc, place, items)?;
@@ -83,7 +83,7 @@ fn read_argument(alloc: Global, place: &str, items: &[Value]) -> Result<Expr, Ru
 }
 
 fn read_lit(alloc: Global, place: &str, items: &[Value]) -> Result<Expr, RuleFault>
-    ensures { AnswersSeen expression_of result
+    ensures { ReadsSeen expression_of result
         (spec.lit_said place.now (parts_behind place.now (items_view items.now))) }
 {
     let part = one_part(alloc, place, items)?;
@@ -99,7 +99,7 @@ pub(crate) fn read_part(
     index: usize,
     value: &Value,
 ) -> Result<Expr, RuleFault>
-    ensures { AnswersSeen expression_of result
+    ensures { ReadsSeen expression_of result
         (spec.expression_said (spec.item_at place.now index) (data_of value.now)) }
 {
     let at = item_at(alloc, place, index)?;
@@ -110,7 +110,7 @@ pub(crate) fn read_part(
 #[cycle(expression)]
 #[tactic(auto, using(crate::proofs::Parts::not_the_one))]
 pub(crate) fn read_one(alloc: Global, place: &str, items: &[Value]) -> Result<Expr, RuleFault>
-    ensures { AnswersSeen expression_of result
+    ensures { ReadsSeen expression_of result
         (spec.one_said place.now (parts_behind place.now (items_view items.now))) }
 {
     if items.len() != 2 {
@@ -127,7 +127,7 @@ pub(crate) fn read_two(
     place: &str,
     items: &[Value],
 ) -> Result<(Expr, Expr), RuleFault>
-    ensures { AnswersSeen both_expressions result
+    ensures { ReadsSeen both_expressions result
         (spec.two_said place.now (parts_behind place.now (items_view items.now))) }
 {
     if items.len() != 3 {
@@ -141,7 +141,7 @@ pub(crate) fn read_two(
 #[cycle(expression)]
 #[tactic(auto, using(crate::proofs::Parts::not_the_two))]
 fn read_field(alloc: Global, place: &str, items: &[Value]) -> Result<Expr, RuleFault>
-    ensures { AnswersSeen expression_of result
+    ensures { ReadsSeen expression_of result
         (spec.field_said place.now (parts_behind place.now (items_view items.now))) }
 {
     if items.len() != 3 {
@@ -161,7 +161,7 @@ fn field(alloc: Global, of: Expr, name: Text) -> Result<Expr, AllocError>
 /// Expressions, of which the first is part 1.
 #[cycle(expression)]
 fn read_all(alloc: Global, place: &str, items: &[Value]) -> Result<Vec<Expr>, RuleFault>
-    ensures { AnswersSeen (λ es. all_expressions es.items) result
+    ensures { ReadsSeen (λ es. all_expressions es.items) result
         (spec.all_said (parts_behind place.now (items_view items.now))) }
 {
     let mut all = Vec::new(alloc);
@@ -178,7 +178,7 @@ fn read_fields(
     place: &str,
     members: &Map<String, Value>,
 ) -> Result<Vec<(Text, Expr)>, RuleFault>
-    ensures { AnswersSeen (λ fs. all_fields fs.items) result
+    ensures { ReadsSeen (λ fs. all_fields fs.items) result
         (spec.fields_said place.now (members_view members.now.entries)) }
 {
     let mut fields = Vec::new(alloc);
@@ -196,7 +196,7 @@ fn read_member(
     name: &str,
     value: &Value,
 ) -> Result<(Text, Expr), RuleFault>
-    ensures value { AnswersSeen (λ m. expression_of m.1) result
+    ensures value { ReadsSeen (λ m. expression_of m.1) result
         (spec.expression_said (spec.member_at place.now name.now) (data_of value.now)) }
     ensures name { IfOk result (λ m. m.0 ≡ name.now) }
 {

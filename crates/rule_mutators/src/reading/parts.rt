@@ -2,7 +2,7 @@
 ghost use Rattle.std.specs.Prelude.{◌≡◌, Err, Result};
 ghost use Rattle.serde_json.specs.View.{view as data_of, items_view};
 ghost use Rattle.group_history.specs.Map.{Bytes};
-ghost use Rattle.rule_mutators.specs.Answers.{AnswersSeen, Refuses};
+ghost use Rattle.rule_mutators.specs.Answers.{ReadsSeen, IsFaultOf};
 ghost use Rattle.rule_mutators.specs.Inside.Parts.{parts_behind};
 ghost use Rattle.rule_mutators.specs.Reading as spec;
 ghost use Rattle.rule_mutators.specs.Views.{expression_of};
@@ -18,7 +18,7 @@ use std::alloc::Global;
 
 /// A fault at a place.
 pub(crate) fn fault(alloc: Global, place: &str, wrong: Wrong) -> RuleFault
-    ensures { Refuses {Y = Bytes} result (Err (At place.now wrong)) }
+    ensures { IsFaultOf {Y = Bytes} result (Err (At place.now wrong)) }
 {
     match Text::new(alloc, place) {
         Ok(place) => RuleFault::At(place, wrong),
@@ -28,7 +28,7 @@ pub(crate) fn fault(alloc: Global, place: &str, wrong: Wrong) -> RuleFault
 
 /// A fault at the part of a number.
 fn fault_at(alloc: Global, place: &str, index: usize, wrong: Wrong) -> RuleFault
-    ensures { Refuses {Y = Bytes} result (Err (At (spec.item_at place.now index) wrong)) }
+    ensures { IsFaultOf {Y = Bytes} result (Err (At (spec.item_at place.now index) wrong)) }
 {
     match item_at(alloc, place, index) {
         Ok(at) => fault(alloc, at.as_str(), wrong),
@@ -38,7 +38,7 @@ fn fault_at(alloc: Global, place: &str, index: usize, wrong: Wrong) -> RuleFault
 
 /// The word of an expression that a value is.
 pub(crate) fn read_word(alloc: Global, place: &str, value: &Value) -> Result<Word, RuleFault>
-    ensures { AnswersSeen (λ w. w) result (spec.known place.now spec.word_of (data_of value.now)) }
+    ensures { ReadsSeen (λ w. w) result (spec.known_word place.now spec.rule_word_of (data_of value.now)) }
 {
     let Some(text) = value.as_str() else {
         return Err(fault(alloc, place, Wrong::NoWord));
@@ -55,7 +55,7 @@ pub(crate) fn read_step_word(
     place: &str,
     value: &Value,
 ) -> Result<StepWord, RuleFault>
-    ensures { AnswersSeen (λ w. w) result (spec.known place.now spec.step_word_of (data_of value.now)) }
+    ensures { ReadsSeen (λ w. w) result (spec.known_word place.now spec.step_word_of (data_of value.now)) }
 {
     let Some(text) = value.as_str() else {
         return Err(fault(alloc, place, Wrong::NoWord));
@@ -73,7 +73,7 @@ pub(crate) fn one_part<'v>(
     place: &str,
     items: &'v [Value],
 ) -> Result<&'v Value, RuleFault>
-    ensures { AnswersSeen (λ v. data_of v.now) result
+    ensures { ReadsSeen (λ v. data_of v.now) result
         (spec.one_value place.now (parts_behind place.now (items_view items.now))) }
 {
     if items.len() != 2 {
@@ -85,7 +85,7 @@ pub(crate) fn one_part<'v>(
 /// A value that stands for itself, whose numbers are whole.
 #[tactic(auto, unfolding(crate::specs::Reading::literal_said))]
 pub(crate) fn read_literal(alloc: Global, place: &str, value: &Value) -> Result<Expr, RuleFault>
-    ensures { AnswersSeen expression_of result (spec.literal_said place.now (data_of value.now)) }
+    ensures { ReadsSeen expression_of result (spec.literal_said place.now (data_of value.now)) }
 {
     if !is_whole(value) {
         return Err(fault(alloc, place, Wrong::NotWhole));
@@ -100,7 +100,7 @@ pub(crate) fn read_which(
     index: usize,
     value: &Value,
 ) -> Result<Which, RuleFault>
-    ensures { AnswersSeen (λ w. w) result (spec.which_said (spec.item_at place.now index) (data_of value.now)) }
+    ensures { ReadsSeen (λ w. w) result (spec.which_said (spec.item_at place.now index) (data_of value.now)) }
 {
     if let Some(index) = value.as_u64() {
         return Ok(Which::At(index));
@@ -118,7 +118,7 @@ pub(crate) fn read_name(
     index: usize,
     value: &Value,
 ) -> Result<Text, RuleFault>
-    ensures { AnswersSeen (λ s. s) result (spec.name_said (spec.item_at place.now index) (data_of value.now)) }
+    ensures { ReadsSeen (λ s. s) result (spec.name_said (spec.item_at place.now index) (data_of value.now)) }
 {
     match value.as_str() {
         Some(name) => Ok(Text::new(alloc, name)?),
@@ -133,7 +133,7 @@ pub(crate) fn read_code(
     index: usize,
     value: &Value,
 ) -> Result<u32, RuleFault>
-    ensures { AnswersSeen (λ n. n) result (spec.code_said (spec.item_at place.now index) (data_of value.now)) }
+    ensures { ReadsSeen (λ n. n) result (spec.code_said (spec.item_at place.now index) (data_of value.now)) }
 {
     match code_of(value) {
         Some(code) => Ok(code),

@@ -1,6 +1,6 @@
 //! Reads steps.
 ghost use Rattle.serde_json.specs.View.{view as data_of, items_view};
-ghost use Rattle.rule_mutators.specs.Answers.{AnswersSeen};
+ghost use Rattle.rule_mutators.specs.Answers.{ReadsSeen};
 ghost use Rattle.rule_mutators.specs.Inside.Parts.{parts_behind, branches_behind};
 ghost use Rattle.rule_mutators.specs.Reading as spec;
 ghost use Rattle.rule_mutators.specs.Views.{step_of, all_steps};
@@ -8,7 +8,7 @@ ghost use Rattle.rule_mutators.specs.Views.{step_of, all_steps};
 use super::expressions::{read_one, read_part, read_two};
 use super::parts::{fault, read_code, read_step_word};
 use crate::faults::{RuleFault, Wrong};
-use crate::language::Step;
+use crate::language::RuleStep;
 use crate::places::item_at;
 use crate::words::StepWord;
 use serde_json::Value;
@@ -16,8 +16,12 @@ use std::alloc::Global;
 
 /// The list of steps that a value is.
 #[cycle(step)]
-pub(crate) fn read_steps(alloc: Global, place: &str, value: &Value) -> Result<Vec<Step>, RuleFault>
-    ensures { AnswersSeen (λ ss. all_steps ss.items) result (spec.steps_said place.now (data_of value.now)) }
+pub(crate) fn read_steps(
+    alloc: Global,
+    place: &str,
+    value: &Value,
+) -> Result<Vec<RuleStep>, RuleFault>
+    ensures { ReadsSeen (λ ss. all_steps ss.items) result (spec.steps_said place.now (data_of value.now)) }
 {
     match value {
         Value::Array(items) => read_list(alloc, place, items.as_slice()),
@@ -26,8 +30,8 @@ pub(crate) fn read_steps(alloc: Global, place: &str, value: &Value) -> Result<Ve
 }
 
 #[cycle(step)]
-fn read_list(alloc: Global, place: &str, items: &[Value]) -> Result<Vec<Step>, RuleFault>
-    ensures { AnswersSeen (λ ss. all_steps ss.items) result (spec.list_said place.now 0 (items_view items.now)) }
+fn read_list(alloc: Global, place: &str, items: &[Value]) -> Result<Vec<RuleStep>, RuleFault>
+    ensures { ReadsSeen (λ ss. all_steps ss.items) result (spec.list_said place.now 0 (items_view items.now)) }
 {
     let mut steps = Vec::new(alloc);
     for index in 0..items.len() {
@@ -38,8 +42,8 @@ fn read_list(alloc: Global, place: &str, items: &[Value]) -> Result<Vec<Step>, R
 
 /// The step that the item of a number is.
 #[cycle(step)]
-fn read_step(alloc: Global, place: &str, index: usize, value: &Value) -> Result<Step, RuleFault>
-    ensures { AnswersSeen step_of result (spec.step_said (spec.item_at place.now index) (data_of value.now)) }
+fn read_step(alloc: Global, place: &str, index: usize, value: &Value) -> Result<RuleStep, RuleFault>
+    ensures { ReadsSeen step_of result (spec.step_said (spec.item_at place.now index) (data_of value.now)) }
 {
     let at = item_at(alloc, place, index)?;
     match value {
@@ -49,8 +53,8 @@ fn read_step(alloc: Global, place: &str, index: usize, value: &Value) -> Result<
 }
 
 #[cycle(step)]
-fn read_step_words(alloc: Global, place: &str, items: &[Value]) -> Result<Step, RuleFault>
-    ensures { AnswersSeen step_of result (spec.step_words_said place.now (items_view items.now)) }
+fn read_step_words(alloc: Global, place: &str, items: &[Value]) -> Result<RuleStep, RuleFault>
+    ensures { ReadsSeen step_of result (spec.step_words_said place.now (items_view items.now)) }
 {
     if items.is_empty() {
         return Err(fault(alloc, place, Wrong::NoWord));
@@ -65,20 +69,20 @@ fn read_step_parts(
     place: &str,
     word: StepWord,
     items: &[Value],
-) -> Result<Step, RuleFault>
-    ensures { AnswersSeen step_of result (spec.step_parts_said place.now word
+) -> Result<RuleStep, RuleFault>
+    ensures { ReadsSeen step_of result (spec.step_parts_said place.now word
         (parts_behind place.now (items_view items.now))
         (branches_behind place.now (items_view items.now))) }
 {
     match word {
         StepWord::Put => {
             let (key, value) = read_two(alloc, place, items)?;
-            Ok(Step::Put(key, value))
+            Ok(RuleStep::Put(key, value))
         }
-        StepWord::Del => Ok(Step::Del(read_one(alloc, place, items)?)),
+        StepWord::Del => Ok(RuleStep::Del(read_one(alloc, place, items)?)),
         StepWord::Merge => {
             let (key, value) = read_two(alloc, place, items)?;
-            Ok(Step::Merge(key, value))
+            Ok(RuleStep::Merge(key, value))
         }
         StepWord::Need => read_need(alloc, place, items),
         StepWord::If => read_choice(alloc, place, items),
@@ -87,21 +91,21 @@ fn read_step_parts(
 
 /// An expression and a code.
 #[tactic(auto, using(crate::proofs::Parts::not_the_two))]
-fn read_need(alloc: Global, place: &str, items: &[Value]) -> Result<Step, RuleFault>
-    ensures { AnswersSeen step_of result (spec.need_said place.now (parts_behind place.now (items_view items.now))) }
+fn read_need(alloc: Global, place: &str, items: &[Value]) -> Result<RuleStep, RuleFault>
+    ensures { ReadsSeen step_of result (spec.need_said place.now (parts_behind place.now (items_view items.now))) }
 {
     if items.len() != 3 {
         return Err(fault(alloc, place, Wrong::Parts));
     }
     let test = read_part(alloc, place, 1, &items[1])?;
-    Ok(Step::Need(test, read_code(alloc, place, 2, &items[2])?))
+    Ok(RuleStep::Need(test, read_code(alloc, place, 2, &items[2])?))
 }
 
 /// An expression and two lists of steps.
 #[cycle(step)]
 #[tactic(auto, using(crate::proofs::Parts::not_a_choice))]
-fn read_choice(alloc: Global, place: &str, items: &[Value]) -> Result<Step, RuleFault>
-    ensures { AnswersSeen step_of result
+fn read_choice(alloc: Global, place: &str, items: &[Value]) -> Result<RuleStep, RuleFault>
+    ensures { ReadsSeen step_of result
         (spec.choice_said place.now (branches_behind place.now (items_view items.now))) }
 {
     if items.len() != 4 {
@@ -110,7 +114,7 @@ fn read_choice(alloc: Global, place: &str, items: &[Value]) -> Result<Step, Rule
     let test = read_part(alloc, place, 1, &items[1])?;
     let on_true = read_branch(alloc, place, 2, &items[2])?;
     let on_false = read_branch(alloc, place, 3, &items[3])?;
-    Ok(Step::If(test, on_true, on_false))
+    Ok(RuleStep::If(test, on_true, on_false))
 }
 
 /// The list of steps that is the part of a number.
@@ -120,8 +124,8 @@ fn read_branch(
     place: &str,
     index: usize,
     value: &Value,
-) -> Result<Vec<Step>, RuleFault>
-    ensures { AnswersSeen (λ ss. all_steps ss.items) result
+) -> Result<Vec<RuleStep>, RuleFault>
+    ensures { ReadsSeen (λ ss. all_steps ss.items) result
         (spec.steps_said (spec.item_at place.now index) (data_of value.now)) }
 {
     let at = item_at(alloc, place, index)?;

@@ -23,7 +23,7 @@ unfoldable pub raised : Option Bytes → ℤ → Update
 raised value by =
     needed spec.key_not_there value (λ there.
     needed spec.other_kind (option_and_then spec.number_of (value_of there)) (λ n.
-    needed spec.out_of_range (spec.sum_of n by) (λ sum.
+    needed spec.code_out_of_range (spec.sum_of n by) (λ sum.
     Put (signed_decimal sum))))
 
 -- what `append` and `tag` make of the value at the key: the text there, followed by another

@@ -10,7 +10,7 @@ use Rattle.script_parser.specs.declared.script.LineKind.TheVariants as asked
 use Rattle.script_parser.specs.declared.script.Line.{Line}
 use Rattle.script_parser.specs.Context.{Context}
 use Rattle.script_parser.specs.Kept.{without_lines}
-use Rattle.script_parser.specs.Reading.{AsksFor, bytes_said_with, kept_by}
+use Rattle.script_parser.specs.Reading.{LineAsks, bytes_said_with, kept_by}
 use Rattle.script_parser.specs.Scripts.{line_said}
 use Rattle.script_runner.specs.Answering.{IsToldAt, players_in, seen_in, sights_in}
 use Rattle.script_runner.specs.Commanding.{Player}
@@ -90,7 +90,7 @@ pub record IsFirstPhase (n : ℕ) (line : Bytes) (before after : Standing) : Typ
   pub other : given_in before line ≡ None
   pub said : Context
   pub right : bytes_said_with before.said n line ≡ Ok said
-  pub asks : AsksFor n before.said asked.Phase said
+  pub asks : LineAsks n before.said asked.Phase said
   pub kept : after ≡ record before { said = without_lines said }
 
 -- What is known of a line before the first phase: it was answered, and is still before it, or it begins it.

@@ -1,6 +1,6 @@
 use Rattle.std.proofs.Common.{rules, arith}
 use Rattle.std.proofs.lemmas.Grind.{common_steps}
-use Rattle.rule_mutators.specs.declared.language.Step.{the_lemmas}
+use Rattle.rule_mutators.specs.declared.language.RuleStep.{the_lemmas}
 use Rattle.rule_mutators.proofs.running.+steps.Goals as goal
 
 pub run_steps-returns-in_default : goal.run_steps-returns-in_default

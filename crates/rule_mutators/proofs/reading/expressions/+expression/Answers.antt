@@ -1,7 +1,7 @@
 use Rattle.std.proofs.Common.{rules, ◌≡◌, ◌<◌, ◌≤◌, ◌++◌, ◌∷◌, [], length, Ok, sym, ap, ◌∙◌, string_bytes}
 use Rattle.serde_json.specs.View.{view, items_view, members_view}
 use Rattle.serde_json.proofs.Views.{Entry}
-use Rattle.rule_mutators.specs.Answers.{Refuses}
+use Rattle.rule_mutators.specs.Answers.{IsFaultOf}
 use Rattle.rule_mutators.specs.Inside.Parts.{parts_behind}
 use Rattle.rule_mutators.specs.Reading.{two_said, field_said, fields_said, expression_said, name_said, item_at}
 use Rattle.rule_mutators.specs.Reading.{member_at, ◌>>=◌}
@@ -14,7 +14,7 @@ use Rattle.rule_mutators.proofs.reading.expressions.+expression.Goals as goal
 
 pub read_two-returns-in_err-first : goal.read_two-returns-in_err-first
 read_two-returns-in_err-first t c =
-    let h : Refuses c.in_err-first.field-0.0
+    let h : IsFaultOf c.in_err-first.field-0.0
     (two_said c.args.place.now (parts_behind c.args.place.now (items_view c.args.items.now)))
     = first_refuses _ c.args.place.now c.args.items.now c.index-items-1.result
     (λ both e. both.1.said >>= (λ f. Ok (e, f))) c.if-items-ne3.false c.index-items-1.is c.in_err-first.ensures in
@@ -23,7 +23,7 @@ read_two-returns-in_err-first t c =
 pub read_two-returns-in_err-second : goal.read_two-returns-in_err-second
 read_two-returns-in_err-second t c =
     let e = c.in_err-second.field-0.0 in
-    let h : Refuses e (two_said c.args.place.now (parts_behind c.args.place.now (items_view c.args.items.now)))
+    let h : IsFaultOf e (two_said c.args.place.now (parts_behind c.args.place.now (items_view c.args.items.now)))
     = second_refuses e c.args.place.now c.args.items.now c.index-items-1.result c.index-items-2.result
     (expression_of c.in_ok-first.first) (λ both e. both.1.said >>= (λ f. Ok (e, f))) c.if-items-ne3.false
     c.index-items-1.is c.index-items-2.is c.in_ok-first.ensures
@@ -33,7 +33,7 @@ read_two-returns-in_err-second t c =
 
 pub read_field-returns-in_err-of : goal.read_field-returns-in_err-of
 read_field-returns-in_err-of t c =
-    let h : Refuses c.in_err-of.field-0.0
+    let h : IsFaultOf c.in_err-of.field-0.0
     (field_said c.args.place.now (parts_behind c.args.place.now (items_view c.args.items.now)))
     = first_refuses _ c.args.place.now c.args.items.now c.index-items-1.result
     (λ both e. name_said (item_at c.args.place.now 2) both.1.value >>= (λ s. Ok (rule.field e s)))
@@ -43,7 +43,7 @@ read_field-returns-in_err-of t c =
 pub read_field-returns-in_err-name : goal.read_field-returns-in_err-name
 read_field-returns-in_err-name t c =
     let e = c.in_err-name.field-0.0 in
-    let h : Refuses e (field_said c.args.place.now (parts_behind c.args.place.now (items_view c.args.items.now)))
+    let h : IsFaultOf e (field_said c.args.place.now (parts_behind c.args.place.now (items_view c.args.items.now)))
     = second_refuses e c.args.place.now c.args.items.now c.index-items-1.result c.index-items-2.result
     (expression_of c.in_ok-of.of)
     (λ both e. name_said (item_at c.args.place.now 2) both.1.value >>= (λ s. Ok (rule.field e s)))

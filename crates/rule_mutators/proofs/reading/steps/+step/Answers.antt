@@ -1,9 +1,9 @@
 use Rattle.std.proofs.Common.{rules, ◌≡◌, ◌<◌, ◌≤◌, ◌++◌, ◌∷◌, [], length, Ok, sym, ap, ◌∙◌}
 use Rattle.serde_json.specs.View.{view, items_view}
-use Rattle.rule_mutators.specs.Answers.{Refuses}
+use Rattle.rule_mutators.specs.Answers.{IsFaultOf}
 use Rattle.rule_mutators.specs.Inside.Parts.{branches_behind}
 use Rattle.rule_mutators.specs.Reading.{choice_said, step_said, item_at, ◌>>=◌}
-use Rattle.rule_mutators.specs.declared.language.Step.{the_lemmas}
+use Rattle.rule_mutators.specs.declared.language.RuleStep.{the_lemmas}
 use Rattle.rule_mutators.specs.Rules as rule
 use Rattle.rule_mutators.specs.Views.{expression_of, step_of, all_steps}
 use Rattle.rule_mutators.proofs.Parts.{choice-at, choice_first, choice_second, choice_third}
@@ -13,7 +13,7 @@ use Rattle.rule_mutators.proofs.reading.steps.+step.Goals as goal
 
 pub read_choice-returns-in_err-test : goal.read_choice-returns-in_err-test
 read_choice-returns-in_err-test t c =
-    let h : Refuses c.in_err-test.field-0.0
+    let h : IsFaultOf c.in_err-test.field-0.0
     (choice_said c.args.place.now (branches_behind c.args.place.now (items_view c.args.items.now)))
     = choice_first _ c.args.place.now c.args.items.now c.index-items-1.result c.if-items-ne4.false c.index-items-1.is
     c.in_err-test.ensures in
@@ -21,7 +21,7 @@ read_choice-returns-in_err-test t c =
 
 pub read_choice-returns-in_err-on_true : goal.read_choice-returns-in_err-on_true
 read_choice-returns-in_err-on_true t c =
-    let h : Refuses c.in_err-on_true.field-0.0
+    let h : IsFaultOf c.in_err-on_true.field-0.0
     (choice_said c.args.place.now (branches_behind c.args.place.now (items_view c.args.items.now)))
     = choice_second _ c.args.place.now c.args.items.now c.index-items-1.result c.index-items-2.result
     (expression_of c.in_ok-test.test) c.if-items-ne4.false c.index-items-1.is c.index-items-2.is c.in_ok-test.ensures
@@ -30,7 +30,7 @@ read_choice-returns-in_err-on_true t c =
 
 pub read_choice-returns-in_err-on_false : goal.read_choice-returns-in_err-on_false
 read_choice-returns-in_err-on_false t c =
-    let h : Refuses c.in_err-on_false.field-0.0
+    let h : IsFaultOf c.in_err-on_false.field-0.0
     (choice_said c.args.place.now (branches_behind c.args.place.now (items_view c.args.items.now)))
     = choice_third _ c.args.place.now c.args.items.now c.index-items-1.result c.index-items-2.result
     c.index-items-3.result (expression_of c.in_ok-test.test) (all_steps c.in_ok-on_true.on_true.items)

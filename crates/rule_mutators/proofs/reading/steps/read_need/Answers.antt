@@ -1,9 +1,9 @@
 use Rattle.std.proofs.Common.{rules, Ok, ap, ◌∙◌}
 use Rattle.serde_json.specs.View.{view, items_view}
-use Rattle.rule_mutators.specs.Answers.{Refuses}
+use Rattle.rule_mutators.specs.Answers.{IsFaultOf}
 use Rattle.rule_mutators.specs.Inside.Parts.{parts_behind}
 use Rattle.rule_mutators.specs.Reading.{need_said, code_said, item_at, ◌>>=◌}
-use Rattle.rule_mutators.specs.declared.language.Step.{the_lemmas}
+use Rattle.rule_mutators.specs.declared.language.RuleStep.{the_lemmas}
 use Rattle.rule_mutators.specs.Rules as rule
 use Rattle.rule_mutators.specs.Views.{expression_of}
 use Rattle.rule_mutators.proofs.Answering.{refuses_on}
@@ -12,7 +12,7 @@ use Rattle.rule_mutators.proofs.reading.steps.read_need.Goals as goal
 
 pub returns-in_err-test : goal.returns-in_err-test
 returns-in_err-test c =
-    let h : Refuses c.in_err-test.field-0.0
+    let h : IsFaultOf c.in_err-test.field-0.0
     (need_said c.args.place.now (parts_behind c.args.place.now (items_view c.args.items.now)))
     = first_refuses _ c.args.place.now c.args.items.now c.index-items-1.result
     (λ both e. code_said (item_at c.args.place.now 2) both.1.value >>= (λ n. Ok (rule.need e n)))
@@ -22,7 +22,7 @@ returns-in_err-test c =
 pub returns-in_err-read_code : goal.returns-in_err-read_code
 returns-in_err-read_code c =
     let e = c.in_err-read_code.field-0.0 in
-    let h : Refuses e (need_said c.args.place.now (parts_behind c.args.place.now (items_view c.args.items.now)))
+    let h : IsFaultOf e (need_said c.args.place.now (parts_behind c.args.place.now (items_view c.args.items.now)))
     = second_refuses e c.args.place.now c.args.items.now c.index-items-1.result c.index-items-2.result
     (expression_of c.in_ok-test.test)
     (λ both e. code_said (item_at c.args.place.now 2) both.1.value >>= (λ n. Ok (rule.need e n)))
