@@ -184,7 +184,7 @@ def rounds(edits: list[Edit]) -> list[list[Edit]]:
     """The edits in rounds: in one round no two change the same function, and each can be applied behind the others."""
     made: list[list[Edit]] = []
     for edit in edits:
-        fitting = (one for one in made if all(fit(edit, other) for other in one))
+        fitting = (one for one in made if all(fit(edit, other) for other in one) and can_follow(edit, one))
         one = next(fitting, None)
         if one is None:
             made.append([edit])
@@ -196,6 +196,17 @@ def rounds(edits: list[Edit]) -> list[list[Edit]]:
 def fit(edit: Edit, other: Edit) -> bool:
     """Whether two edits can be tried in one check."""
     return not edit.is_alone and not other.is_alone and not edit.places & other.places
+
+
+def can_follow(edit: Edit, others: list[Edit]) -> bool:
+    """Whether the edit can be applied behind the others, which might have written its old text too."""
+    texts: dict[str, str] = {}
+    try:
+        for each in [*others, edit]:
+            texts = each.applied(texts)
+    except Fault:
+        return False
+    return True
 
 
 def open_goals(said: str) -> dict[str, list[str]]:

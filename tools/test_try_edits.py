@@ -4,9 +4,11 @@
     tools/test_try_edits.py
 """
 
+import shutil
 import subprocess
 import sys
 import tempfile
+import threading
 import unittest
 from pathlib import Path
 
@@ -108,6 +110,11 @@ class TryEdits(unittest.TestCase):
         _, said = self.tried("--dry", less=LESS, least=of_greater, one=of_another)
         self.assertEqual(said.splitlines(), ["toy, round 1: least, one", "toy, round 2: less"])
 
+    def test_an_edit_whose_old_text_another_one_writes_is_tried_in_another_round(self):
+        writes_it = "old: { y } else\nnew: { handed_on(x) } else\n"
+        _, said = self.tried("--dry", calls=writes_it, one="old: handed_on(x)\nnew: handed_on(1)\n")
+        self.assertEqual(said.splitlines(), ["toy, round 1: calls", "toy, round 2: one"])
+
     def test_an_edit_that_is_refused_for_another_goal_than_it_names_fails(self):
         status, said = self.tried(takes_the_less=f"{LESS}# refused: returns-clause-third\n")
         self.assertIn("FAILED toy/takes_the_less: not refused for the goal that it names, returns-clause-third", said)
@@ -120,6 +127,10 @@ class TryEdits(unittest.TestCase):
         self.assertEqual(status, 1)
 
     def test_an_edit_that_changes_a_proof_too_is_one_of_its_function(self):
+        answers = self.crate / "proofs/greater/Answers.antt"
+        answers.parent.mkdir(parents=True)
+        self.addCleanup(shutil.rmtree, self.crate / "proofs")
+        answers.write_text("-- one\n")
         with_proof = f"{LESS}file: proofs/greater/Answers.antt\nold: one\nnew: another\n"
         _, said = self.tried("--dry", less=with_proof, one="old: handed_on(x)\nnew: handed_on(1)\n")
         self.assertEqual(said.splitlines(), ["toy, round 1: less, one"])
@@ -127,6 +138,24 @@ class TryEdits(unittest.TestCase):
     def test_a_function_that_c_calls_is_one(self):
         text = 'fn first() {\n    1\n}\n\npub extern "C" fn second() {\n    2\n}\n'
         self.assertEqual(edits.function_round(text, text.index("2"), "exports"), edits.Place("exports", "second"))
+
+    def test_beside_a_run_that_proves_a_copy_a_crate_waits_until_it_is_told(self):
+        with tempfile.TemporaryDirectory(prefix="giqaymu-copy-") as room:
+            copy, said = Path(room, "copy"), Path(room, "copy/said")
+            shutil.copytree(self.root, copy, ignore=shutil.ignore_patterns("must-fail"))
+            said.write_text("rt: toyish proved\n")
+            timer = threading.Timer(3, said.write_text, ["rt: toyish proved\nrt: toy proved\n"])
+            timer.start()
+            _, told = self.tried("--beside", copy, takes_the_less=f"{LESS}# refused: {self.goal}\n")
+            self.assertFalse(timer.is_alive())
+            self.assertEqual(told.splitlines()[-1], "1 passed, 0 failed")
+            said.write_text("rt: toy is kept: an earlier run on this machine proved the same files\n")
+            _, told = self.tried("--beside", copy, takes_the_less=f"{LESS}# refused: {self.goal}\n")
+            self.assertEqual(told.splitlines()[-1], "1 passed, 0 failed")
+            shutil.rmtree(copy / "crates/toy/out")
+            said.write_text("rt: toy NOT PROVED\n0 passed, 1 failed\n")
+            _, told = self.tried("--beside", copy, takes_the_less=f"{LESS}# refused: {self.goal}\n")
+            self.assertIn("FAILED toy/takes_the_less: NOT TRIED: toy has no library", told)
 
     def test_an_edit_that_does_not_compile_fails(self):
         status, said = self.tried(is_no_rust="old: if x < y\nnew: if x < z\n# refused: returns\n")
