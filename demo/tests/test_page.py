@@ -19,6 +19,9 @@ from children import HERE, Child
 Json = Any
 
 WAIT = 20.0
+LOSING = 180.0
+"""Seconds to wait where half of the requests and of the responses are lost: four pulls of five fail then, and the group
+waits up to two seconds between two."""
 PROGRAMS = ("chromium", "chromedriver")
 
 
@@ -143,16 +146,20 @@ class Driven(Shown):
             self.shows(letter, kind="li.pending")
         self.holds("C shows that milk is done", lambda: self.items("C", "li.done") == ["milk"])
 
+    def lose(self, part: str) -> None:
+        self.find(f'#lose option[value="{part}"]')[0].click()
+
     def test_losses(self) -> None:
         self.holds("the server's switch", lambda: len(self.find("#lose")) == 1)
-        self.find('#lose option[value="0.5"]')[0].click()
+        self.lose("0.5")
         texts = [f"thing {n}" for n in range(5)]
         for text in texts:
             self.add("B", text)
-        self.holds("all come to C", lambda: self.items("C") == texts, 60)
+        self.holds("all come to C", lambda: self.items("C") == texts, LOSING)
+        self.lose("0.15")
         self.holds("nothing is pending", lambda: not self.items("A", "li.pending") and not self.find(".mutation"), 60)
-        self.find('#list-C button')[0].click()
-        self.shows("A", *texts[1:])
+        self.find("#list-C button")[0].click()
+        self.holds("A shows that one is gone", lambda: self.items("A") == texts[1:], 60)
 
     def test_a_refused_mutation_is_told(self) -> None:
         self.holds("the list", lambda: len(self.find("#list-A")) == 1)
