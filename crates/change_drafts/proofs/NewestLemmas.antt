@@ -1,5 +1,6 @@
 -- What the newest content of a list spells, and a draft's newest node.
-use Rattle.std.proofs.Common.{◌≡◌, ℕ, ◌+◌, List, [], ◌∷◌, ◌++◌, false, cond, map, length, Some, None, refl, sym, ap}
+use Rattle.std.proofs.Common.{◌≡◌, ℕ, ◌+◌, List, [], ◌∷◌, ◌++◌, true, false, cond, map, length, Option, Some, None}
+use Rattle.std.proofs.Common.{refl, sym, ap}
 use Rattle.std.proofs.Common.{◌∙◌, subst, arith, append_assoc, length-append}
 use Rattle.std.specs.Prelude.{option_and_then, option_map, ◌==◌}
 use Rattle.std.specs.FinMap as finite
@@ -20,7 +21,7 @@ use Rattle.group_history.specs.Naming.{content_of}
 use Rattle.group_history.specs.Refs.{stamp_of}
 use Rattle.group_history.specs.Spelling.{Contents, Version, Spelled, as_version, as_snapshot, version, spelled}
 use Rattle.group_history.specs.Spelling.{version_in, basis_in, state_in, state_over, stepped, snapshot_of, version_at}
-use Rattle.group_history.specs.Spelling.{snapshot_at, map_at}
+use Rattle.group_history.specs.Spelling.{snapshot_at, map_at, tells_right}
 use Rattle.group_history.specs.State.{State, Ids, opening, pulled_state}
 use Rattle.group_history.proofs.Spellings.{spelled-newest, length-spelled}
 use Rattle.group_history.proofs.TextMaps.{empty_map}
@@ -30,10 +31,10 @@ use Rattle.change_drafts.specs.Chaining.{HasTip}
 use Rattle.change_drafts.specs.declared.tips.Tip.{Tip}
 
 -- the content of a commit over a basis
-abbrev over : {A : Type 0} → A → A → A → CommitChange → Commit A
-over root basis snapshot step = record {
+abbrev over : {A : Type 0} → A → A → A → CommitChange → Option Ids → Commit A
+over root basis snapshot step told = record {
   root = root;
-  kind = Over (record { basis = basis; snapshot = snapshot; step = step });
+  kind = Over (record { basis = basis; snapshot = snapshot; step = step; told = told });
 }
 
 abbrev made_of_state : Entries → State → Version
@@ -54,17 +55,21 @@ newest_commit cs root kind m s r state =
     ∙ ap (λ n. Some (mark n (made_of_state m s))) (length-spelled cs)
 
 -- the state of a commit over a basis
-over_state : (cs : Contents) (basis snapshot : ℕ) (step : CommitChange) (v : Version) (m : Entries)
+over_state : (cs : Contents) (basis snapshot : ℕ) (step : CommitChange) (told : Option Ids) (v : Version) (m : Entries)
     → version_at cs basis ≡ Some v → snapshot_at cs basis ≡ Some snapshot → v.state.closed ≡ false
-    → state_in (spelled cs) (Over (record { basis = basis; snapshot = snapshot; step = step })) m
+    → tells_right told v.state ≡ true
+    → state_in (spelled cs) (Over (record { basis = basis; snapshot = snapshot; step = step; told = told })) m
     ≡ Some (stepped v.state step)
-over_state cs basis snapshot step v m b s is_open =
+over_state cs basis snapshot step told v m b s is_open right =
     let done = spelled cs in
     let here : basis_in done basis snapshot ≡ Some v =
     ap (λ o. option_and_then (λ k. cond (k == snapshot) (version_in done basis) None) o) s
     ∙ ap (λ t. cond t (version_in done basis) None) (eq-eqb snapshot snapshot refl)
     ∙ b in
-    ap (λ o. option_and_then (state_over step) o) here ∙ ap (λ t. cond t None (Some (stepped v.state step))) is_open
+    let after : Option State = Some (stepped v.state step) in
+    ap (λ o. option_and_then (state_over told step) o) here
+    ∙ ap (λ t. cond t None (cond (tells_right told v.state) after None)) is_open
+    ∙ ap (λ t. cond t after None) right
 
 -- a draft with one node more
 nodes-pushed : (contents : Contents) (nodes : List (Node Ref)) (n : Node Ref)
@@ -101,25 +106,24 @@ tip_of contents mid new first n tip v l is stamp h r =
 
 -- a commit over a basis
 pub over_tip : (contents : Contents) (mid new : List (Node Ref)) (first : ℕ) (basis : Tip) (root at : Ref)
-    (step : CommitChange)
-    (v : Version) (m : Entries)
-    → length contents ≡ first → new ≡ mid ++ node.Commit (over root basis.commit basis.snapshot step) ∷ []
+    (step : CommitChange) (told : Option Ids) (v : Version) (m : Entries)
+    → length contents ≡ first → new ≡ mid ++ node.Commit (over root basis.commit basis.snapshot step told) ∷ []
     → stamp_of at ≡ first + length mid
     → version_at (with_nodes contents mid) (stamp_of basis.commit) ≡ Some v
     → snapshot_at (with_nodes contents mid) (stamp_of basis.commit) ≡ Some (stamp_of basis.snapshot)
-    → v.state.closed ≡ false
+    → v.state.closed ≡ false → tells_right told v.state ≡ true
     → map_at (with_nodes contents mid) (stamp_of root) ≡ Some m
     → HasTip (with_nodes contents new) (record { commit = at; snapshot = basis.snapshot; root = root })
     (made_of_state m (stepped v.state step))
-over_tip contents mid new first basis root at step v m l is stamp b s is_open r =
+over_tip contents mid new first basis root at step told v m l is stamp b s is_open right r =
     let cs = with_nodes contents mid in
-    tip_of contents mid new first (node.Commit (over root basis.commit basis.snapshot step))
+    tip_of contents mid new first (node.Commit (over root basis.commit basis.snapshot step told))
     (record { commit = at; snapshot = basis.snapshot; root = root })
     (made_of_state m (stepped v.state step)) l is stamp
     (newest_commit cs (stamp_of root) (Over
-    (record { basis = stamp_of basis.commit; snapshot = stamp_of basis.snapshot; step = step })) m
+    (record { basis = stamp_of basis.commit; snapshot = stamp_of basis.snapshot; step = step; told = told })) m
     (stepped v.state step) r (over_state cs (stamp_of basis.commit)
-    (stamp_of basis.snapshot) step v m b s is_open)) r
+    (stamp_of basis.snapshot) step told v m b s is_open right)) r
 
 -- a snapshot
 pub snapshot_tip : (contents : Contents) (mid new : List (Node Ref)) (first : ℕ) (root at : Ref) (cookie : Cookie)

@@ -1,5 +1,5 @@
 -- A run of a mutator on a tree.
-use Rattle.std.specs.Prelude.{◌≡◌, Bool, true, false, List, Some}
+use Rattle.std.specs.Prelude.{◌≡◌, Bool, true, false, List, Some, Contains}
 use Rattle.group_history.specs.declared.mutations.Mutation.{Mutation}
 use Rattle.group_history.specs.Map.{Bytes, Entries}
 use Rattle.group_history.specs.Meaning.{Meaning, Meanings}
@@ -31,6 +31,10 @@ MayReplay contents has means m x (replayed.Ran left) = (has ≡ true)
     × (tree_map contents left.tree ≡ Some (replayed_once means m x))
     × (left.done ≡ false → replayed_once means m x ≡ m)
 MayReplay contents has means m x (replayed.Lacks tree) = (has ≡ false) × (tree_map contents tree ≡ Some m)
+
+-- the group has the mutator of one of these not
+abbrev pub LacksOne : (Bytes → Bool) → List Mutation → Type 0
+LacksOne has xs = (x : Mutation) × Contains xs x × (has x.name ≡ false)
 
 -- the map of a run as it is, and the one where it began: with all that it wrote put back
 abbrev pub map_now : Contents → RunMap → Entries

@@ -1,13 +1,8 @@
 -- What keys had before they were written, and the map with all of it put back.
 use Rattle.std.specs.Prelude.{Bool, true, false, List, [], ◌∷◌, Option, Some, None}
-use Rattle.std.specs.Coded.{Coded, coded_list, coded_ℕ}
 use Rattle.std.specs.FinMap as finite
 use Rattle.group_history.specs.declared.mutations.Mutation.{Mutation}
 use Rattle.group_history.specs.Map.{Bytes, Entries}
-
--- two maps can be told apart, so a type may keep that they are equal
-pub entries_coded : Coded Entries
-entries_coded = finite.code (coded_list coded_ℕ) (coded_list coded_ℕ)
 
 -- the map with this at the key; none: without the key
 abbrev pub with_there : Entries → Bytes → Option Bytes → Entries

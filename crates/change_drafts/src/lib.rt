@@ -42,4 +42,4 @@ pub use looks::{TipLook, base_at, look_at, pending_at};
 pub use mutators::{Has, Runs};
 pub use pulls::{add_patched, after_changes, pull_outcome};
 pub use runs::{Left, OwnRun, Replayed, Run, Setting, replay_on, run_on};
-pub use tips::{Tip, add_closing, add_local, add_opening};
+pub use tips::{NewLocal, Tip, add_closing, add_local, add_opening};

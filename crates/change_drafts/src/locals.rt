@@ -1,6 +1,6 @@
 //! Mutations that are replayed: the map that they leave, and a commit for each.
 ghost use Rattle.std.specs.Prelude.{Bool, ◌≡◌, ◌≢◌, ◌⊎◌, ◌<◌, ◌≤◌, [], ◌∷◌, false, length, Some, Ok, Err, IfOk, IfErr};
-ghost use Rattle.std.specs.Prelude.{IfSome, ◌++◌, OnOk};
+ghost use Rattle.std.specs.Prelude.{IfSome, IfNone, ◌++◌, OnOk};
 ghost use mathlib.Core.List.{IsPrefix};
 ghost use Rattle.group_history.specs.Map.{Entries};
 ghost use Rattle.group_history.specs.Meaning.{Meaning, left_by, meaning_of};
@@ -15,7 +15,7 @@ ghost use Rattle.map_chunks.specs.Places.{with_nodes};
 ghost use Rattle.map_tree.specs.Trees.{tree_map};
 ghost use Rattle.change_drafts.specs.Chaining.{HasTip, IsTip};
 ghost use Rattle.change_drafts.specs.Pending.{with_more};
-ghost use Rattle.change_drafts.specs.Running.{HasRun, MayRun};
+ghost use Rattle.change_drafts.specs.Running.{HasRun, LacksOne, MayRun};
 ghost use Rattle.change_drafts.specs.Undoing.{if_done};
 ghost use Rattle.change_drafts.specs.Refusing.{RefusesFor, StopsAs};
 
@@ -120,6 +120,7 @@ fn run_undoing<C: Chunks + Copy, K: NamesContents, M: Runs>(
     ensures done { (m : Entries) → map_at (with_nodes K.known draft.now.nodes) (stamp_of root) ≡ Some m
         → IfOk result (λ found. IfSome found (λ undone. map_after M.means m undone.done.items
         ≡ map_after M.means m pending.now)) }
+    ensures lacks { IfOk result (λ found. IfNone found (LacksOne M.has pending.now)) }
     ensures err { IfErr result (λ e. (e ≡ NoMemory) ⊎ StopsAs C.stops e) }
 {
     let mut tree = Tree::at(root);
@@ -181,6 +182,7 @@ pub fn run_pending<C: Chunks + Copy, K: NamesContents, M: Runs>(
     ensures left { (m : Entries) → map_at (with_nodes K.known draft.now.nodes) (stamp_of root) ≡ Some m
         → IfOk result (λ found. IfSome found (λ tree. tree_map (with_nodes K.known draft.now.nodes) tree
         ≡ Some (map_after M.means m pending.now))) }
+    ensures lacks { IfOk result (λ found. IfNone found (LacksOne M.has pending.now)) }
     ensures err { IfErr result (λ e. (e ≡ NoMemory) ⊎ StopsAs C.stops e) }
 {
     if let Some(tree) = run_all::<C, K, M>(setting, draft, root, pending)? {
@@ -214,7 +216,7 @@ fn add_unread<K: NamesContents>(
     let mut tip = basis;
     for mutation in before {
         let mutation = mutation.clone()?;
-        tip = add_over(draft, tip, tip.root, CommitChange::Local(mutation))?;
+        tip = add_over(draft, tip, tip.root, CommitChange::Local(mutation), None)?;
     }
     Ok(tip)
 }
@@ -243,7 +245,7 @@ fn add_all<K: NamesContents>(
 {
     let tip = add_unread::<K>(draft, basis, before)?;
     let mutation = last.clone()?;
-    add_over(draft, tip, root, CommitChange::Local(mutation))
+    add_over(draft, tip, root, CommitChange::Local(mutation), None)
 }
 
 /// Drafts a commit for each of the mutations, in order. The last one alone has the map that they left, which the tree

@@ -2,7 +2,7 @@
 //!
 //! A commit's map is drafted before the commit itself. Both are told as a `Tip`, from which the next
 //! commit goes on.
-ghost use Rattle.std.specs.Prelude.{◌≡◌, ◌⊎◌, ◌+◌, ◌<◌, ◌≤◌, [], ◌∷◌, false, length, Some, IfOk, IfErr};
+ghost use Rattle.std.specs.Prelude.{◌≡◌, ◌⊎◌, ◌+◌, ◌<◌, ◌≤◌, [], ◌∷◌, true, false, length, Some, IfOk, IfErr};
 ghost use Rattle.std.specs.FinMap as finite;
 ghost use mathlib.Core.List.{IsPrefix};
 ghost use Rattle.group_history.specs.Cookies.{null_cookie};
@@ -11,6 +11,7 @@ ghost use Rattle.group_history.specs.Mutating.{after_mutate};
 ghost use Rattle.group_history.specs.Pulling.{after_closing};
 ghost use Rattle.group_history.specs.Refs.{stamp_of};
 ghost use Rattle.group_history.specs.Spelling.{Contents, Version, version_at, snapshot_at, map_at, stepped};
+ghost use Rattle.group_history.specs.Spelling.{tells_right};
 ghost use Rattle.group_history.specs.State.{opening, pulled_state};
 ghost use Rattle.group_history.specs.declared.refusals.Refusal.TheVariants.{NoMemory, Stamps};
 ghost use Rattle.map_chunks.specs.Drafts.{AddsNeeded, AreBelow, AreNeeded, IsLate};
@@ -35,19 +36,28 @@ pub struct Tip {
     pub root: Ref,
 }
 
-/// Drafts a commit over a basis, with the map of this root.
+/// A new mutation, and each client's last id before it, where its commit is to tell them.
+#[derive(Drop)]
+pub struct NewLocal {
+    pub mutation: Mutation,
+    pub told: Option<ConfirmedIds>,
+}
+
+/// Drafts a commit over a basis, with the map of this root, which may tell each client's last id at the basis.
 #[inline(always)]
 pub(crate) fn add_over(
     draft: &mut Draft,
     basis: Tip,
     root: Ref,
     step: CommitChange,
+    told: Option<ConfirmedIds>,
 ) -> Result<Tip, Refusal>
     requires below { AreBelow (draft.old.first + length draft.old.nodes) (root ∷ basis.commit ∷ basis.snapshot ∷ []) }
     ensures spelled { (contents : Contents) (v : Version) (m : Entries) → length contents ≡ draft.old.first
         → version_at (with_nodes contents draft.old.nodes) (stamp_of basis.commit) ≡ Some v
         → snapshot_at (with_nodes contents draft.old.nodes) (stamp_of basis.commit) ≡ Some (stamp_of basis.snapshot)
-        → v.state.closed ≡ false → map_at (with_nodes contents draft.old.nodes) (stamp_of root) ≡ Some m
+        → v.state.closed ≡ false → tells_right told v.state ≡ true
+        → map_at (with_nodes contents draft.old.nodes) (stamp_of root) ≡ Some m
         → IfOk result (λ tip. HasTip (with_nodes contents draft.new.nodes) tip
         (record { state = stepped v.state step; read = m })) }
     ensures needed { IfOk result (λ tip. AddsNeeded (root ∷ basis.commit ∷ basis.snapshot ∷ []) (tip.commit ∷ [])
@@ -64,6 +74,7 @@ pub(crate) fn add_over(
         basis: basis.commit,
         snapshot,
         step,
+        told,
     };
     let commit = draft.push_commit(Commit {
         root,
@@ -82,16 +93,17 @@ pub fn add_local(
     draft: &mut Draft,
     tree: Tree,
     basis: Tip,
-    mutation: Mutation,
+    new: NewLocal,
 ) -> Result<Tip, Refusal>
     requires map { AreBelow (draft.old.first + length draft.old.nodes) (tree_places tree) }
     requires chain { AreBelow (draft.old.first + length draft.old.nodes) (basis.commit ∷ basis.snapshot ∷ []) }
     ensures spelled { (contents : Contents) (v : Version) (m : Entries) → length contents ≡ draft.old.first
         → version_at (with_nodes contents draft.old.nodes) (stamp_of basis.commit) ≡ Some v
         → snapshot_at (with_nodes contents draft.old.nodes) (stamp_of basis.commit) ≡ Some (stamp_of basis.snapshot)
-        → v.state.closed ≡ false → tree_map (with_nodes contents draft.old.nodes) tree ≡ Some m
+        → v.state.closed ≡ false → tells_right new.told v.state ≡ true
+        → tree_map (with_nodes contents draft.old.nodes) tree ≡ Some m
         → IfOk result (λ tip. HasTip (with_nodes contents draft.new.nodes) tip
-        (record { state = after_mutate v.state mutation; read = m })) }
+        (record { state = after_mutate v.state new.mutation; read = m })) }
     ensures needed { IfOk result (λ tip. AddsNeeded (basis.commit ∷ []) (tip.commit ∷ []) draft.old draft.new) }
     ensures first { draft.new.first ≡ draft.old.first }
     ensures new { IfOk result (λ tip. draft.old.first ≤ stamp_of tip.commit) }
@@ -101,7 +113,8 @@ pub fn add_local(
     ensures late { IfErr result (λ e. e ≡ Stamps → IsLate draft.old.first) }
 {
     let root = tree.freeze(alloc, draft)?;
-    let tip = add_over(draft, basis, root, CommitChange::Local(mutation))?;
+    let NewLocal { mutation, told } = new;
+    let tip = add_over(draft, basis, root, CommitChange::Local(mutation), told)?;
     Ok(tip)
 }
 
@@ -120,7 +133,7 @@ pub fn add_closing(draft: &mut Draft, basis: Tip) -> Result<Ref, Refusal>
     ensures why { IfErr result (λ e. (e ≡ NoMemory) ⊎ (e ≡ Stamps)) }
     ensures late { IfErr result (λ e. e ≡ Stamps → IsLate draft.old.first) }
 {
-    let tip = add_over(draft, basis, basis.root, CommitChange::Closed)?;
+    let tip = add_over(draft, basis, basis.root, CommitChange::Closed, None)?;
     Ok(tip.commit)
 }
 

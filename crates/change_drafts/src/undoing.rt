@@ -8,7 +8,8 @@ ghost use Rattle.std.specs.Coded.{codes};
 ghost use Rattle.std.specs.FinMap as finite;
 ghost use Rattle.group_history.specs.declared.mutators.Stop.TheVariants.{NoMemory};
 ghost use Rattle.group_history.specs.Map.{Entries};
-ghost use Rattle.change_drafts.specs.Undoing.{entries_coded, undone, with_there};
+ghost use Rattle.group_history.specs.State.{entries_coded};
+ghost use Rattle.change_drafts.specs.Undoing.{undone, with_there};
 
 use group_history::{Json, Ran, Scan, Stop, Text, Update, WriteView};
 use std::alloc::{AllocError, Global};

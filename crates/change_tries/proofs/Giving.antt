@@ -38,7 +38,7 @@ use Rattle.commit_graph.proofs.Reached.{reaches_back, reaches_stays, there_versi
 use Rattle.linearized.specs.Answered.{is_resource_refusal}
 use Rattle.linearized.specs.Trying.{IsMove, IsUnproposed}
 use Rattle.commit_publishing.specs.Placed.{AreDrawnBy, FoundNoneFor, LieBelow}
-use Rattle.commit_publishing.specs.Retiring.{AreFreed, GivenUp, GivesOneUp, GivesUp, drafted, entries_of}
+use Rattle.commit_publishing.specs.Retiring.{AreFreed, GivenUp, GivesOneUp, GivesUp, draft_deeds, entries_drawn}
 use Rattle.commit_publishing.proofs.Leaving.{freed_known, gives_up_known, gives_up_more}
 use Rattle.commit_publishing.proofs.Passing.{KnowsAs, all_shut_as, pins_as}
 use Rattle.change_tries.specs.Causes.{HasCause, HasCauseAt, LacksRoom}
@@ -93,7 +93,7 @@ gives_up may end count old new ends loads reached one = record {
 pub gives_lost : (may : ℕ → Type 0) (end : ℕ) (old mid new : SeatState) (refs : List Ref) → may end → LieBelow end refs
     → AreDrawnBy old.mark mid.mark refs → own new.mark ≡ own mid.mark
     → old.view.epoch_loads ≤ new.view.epoch_loads → old.view.reached ≤ new.view.reached
-    → mid.view.deeds ≡ drafted (map slot_of refs) [] old.view.deeds
+    → mid.view.deeds ≡ draft_deeds (map slot_of refs) [] old.view.deeds
     → AreFreed old.table.sizes.slots new.view.reached (map slot_of refs) mid.view.deeds new.view.deeds
     → FreesNone may 1 old new
 gives_lost may end old mid new refs ends low d same loads reached was freed =
@@ -144,11 +144,11 @@ back_since may more all old mid new gs hs ys same f h a b = record {
 }
 
 -- what was added to the book since
-own_since : (old mid new : Known) (gs hs : List GivenUp) (more : List Entry) → own mid ≡ own old ++ entries_of gs
-    → own new ≡ own mid ++ (entries_of hs ++ more) → own new ≡ own old ++ (entries_of (gs ++ hs) ++ more)
-own_since old mid new gs hs more a b = b ∙ ap (λ (es : List Entry). es ++ (entries_of hs ++ more)) a
-    ∙ append_assoc (own old) (entries_of gs) (entries_of hs ++ more)
-    ∙ ap (λ (es : List Entry). own old ++ es) (sym (append_assoc (entries_of gs) (entries_of hs) more))
+own_since : (old mid new : Known) (gs hs : List GivenUp) (more : List Entry) → own mid ≡ own old ++ entries_drawn gs
+    → own new ≡ own mid ++ (entries_drawn hs ++ more) → own new ≡ own old ++ (entries_drawn (gs ++ hs) ++ more)
+own_since old mid new gs hs more a b = b ∙ ap (λ (es : List Entry). es ++ (entries_drawn hs ++ more)) a
+    ∙ append_assoc (own old) (entries_drawn gs) (entries_drawn hs ++ more)
+    ∙ ap (λ (es : List Entry). own old ++ es) (sym (append_assoc (entries_drawn gs) (entries_drawn hs) more))
     ∙ ap (λ (es : List Entry). own old ++ (es ++ more)) (sym (flat_map-append (λ (g : GivenUp). g.entries) gs hs))
 
 -- WHAT IS LEFT BEHIND
@@ -205,8 +205,8 @@ frees_since may more all n m old mid new None same g h a b = record {
   few = let x = a.few in let y = b.few in omega (arith, length-append a.given b.given);
   back = back_since may more all old mid new a.given b.given new.view.deeds same g h a.back b.back;
   own = own_since old.mark mid.mark new.mark a.given b.given [] a.own
-      (b.own ∙ ap (λ (es : List Entry). own mid.mark ++ es) (sym (append-nil (entries_of b.given))))
-      ∙ ap (λ (es : List Entry). own old.mark ++ es) (append-nil (entries_of (a.given ++ b.given)));
+      (b.own ∙ ap (λ (es : List Entry). own mid.mark ++ es) (sym (append-nil (entries_drawn b.given))))
+      ∙ ap (λ (es : List Entry). own old.mark ++ es) (append-nil (entries_drawn (a.given ++ b.given)));
 }
 frees_since may more all n m old mid new (Some c) same g h a f = record {
   base = f.base;
@@ -232,10 +232,10 @@ frees_since may more all n m old mid new (Some c) same g h a f = record {
   back = back_since may more all old mid new a.given f.given f.lost same g h a.back f.back;
   own = own_since old.mark mid.mark new.mark a.given f.given
       (drafted_by old.mark.seat f.first f.contents ∷ moved old.mark.seat f.to c ∷ []) a.own
-      (subst (λ (s : Option ℕ). own new.mark ≡ own mid.mark ++ (entries_of f.given
+      (subst (λ (s : Option ℕ). own new.mark ≡ own mid.mark ++ (entries_drawn f.given
       ++ drafted_by s f.first f.contents ∷ moved s f.to c ∷ [])) same.later.seat f.own);
   freed = subst (λ (t : ClaimsId). AreFreed t.sizes.slots new.view.reached (map slot_of f.left)
-      (drafted (map slot_of f.refs) [] f.lost) new.view.deeds) same.table f.freed;
+      (draft_deeds (map slot_of f.refs) [] f.lost) new.view.deeds) same.table f.freed;
 }
 
 -- and a later part did nothing to slots, and saw nothing of the book
@@ -285,9 +285,9 @@ frees_then may all n old mid new (Some c) h same calm f = record {
   };
   own = ap own same ∙ f.own;
   freed = subst (AreFreed old.table.sizes.slots new.view.reached (map slot_of f.left)
-      (drafted (map slot_of f.refs) [] f.lost)) (sym calm.deeds)
+      (draft_deeds (map slot_of f.refs) [] f.lost)) (sym calm.deeds)
       (freed_known old.table.sizes.slots mid.view.reached new.view.reached (map slot_of f.left)
-      (drafted (map slot_of f.refs) [] f.lost) mid.view.deeds calm.reached f.freed);
+      (draft_deeds (map slot_of f.refs) [] f.lost) mid.view.deeds calm.reached f.freed);
 }
 
 -- it may be said in more words which slots may be taken, and that more drafts at most were given up

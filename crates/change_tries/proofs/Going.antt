@@ -16,7 +16,7 @@ use Rattle.group_history.specs.State.{State, replayed}
 use Rattle.group_history.proofs.Replays.{replayed-append}
 use Rattle.map_tree.specs.Trees.{tree_map}
 use Rattle.change_tries.specs.Going.{GoesOnReplaying, HasGone}
-use Rattle.change_tries.specs.Runs.{HasNew, IsAskedRun, IsFresh, IsNextOf, Leads, drafted, left_of}
+use Rattle.change_tries.specs.Runs.{HasNew, IsAskedRun, IsFresh, IsNextOf, Leads, with_draft, left_of}
 use Rattle.change_tries.specs.declared.ending.Went.TheVariants as went
 use Rattle.change_tries.specs.declared.runs.AskedRun.{AskedRun}
 use Rattle.change_tries.specs.declared.runs.Chain.{Chain}
@@ -36,10 +36,10 @@ leads_gone has means cs after was now map g l =
     (leads_on means cs after was.chain was.ran.items g.own (reverse was.behind.items) rest map g.order l))
 
 pub mapped_gone : (has : Bytes → Bool) (means : Meanings) (cs : Contents) (was now : Replaying) (map : Entries)
-    → (g : GoesOnReplaying has means cs was now) → tree_map (drafted cs was.chain) was.tree ≡ Some map
-    → tree_map (drafted cs now.chain) now.tree ≡ Some (replayed means map g.own)
+    → (g : GoesOnReplaying has means cs was now) → tree_map (with_draft cs was.chain) was.tree ≡ Some map
+    → tree_map (with_draft cs now.chain) now.tree ≡ Some (replayed means map g.own)
 mapped_gone has means cs was now map g h =
-    ap (λ (c : Chain). tree_map (drafted cs c) now.tree) g.chain ∙ g.mapped map h
+    ap (λ (c : Chain). tree_map (with_draft cs c) now.tree) g.chain ∙ g.mapped map h
 
 -- the last one of a list is the first one of its reverse
 pub reverse_last : (xs ys : List Mutation) (x : Mutation) → xs ≡ ys ++ x ∷ [] → reverse xs ≡ x ∷ reverse ys
@@ -47,10 +47,10 @@ reverse_last xs ys x is = ap reverse is ∙ reverse-append ys (x ∷ [])
 
 -- one more was run
 pub gone_more : (has : Bytes → Bool) (means : Meanings) (cs : Contents) (was now popped next : Replaying) (x : Mutation)
-    (map : Entries) → tree_map (drafted cs was.chain) was.tree ≡ Some map
+    (map : Entries) → tree_map (with_draft cs was.chain) was.tree ≡ Some map
     → GoesOnReplaying has means cs was now → popped.chain ≡ now.chain → popped.ran ≡ now.ran
     → now.behind.items ≡ popped.behind.items ++ x ∷ []
-    → ((m : Entries) → tree_map (drafted cs now.chain) now.tree ≡ Some m
+    → ((m : Entries) → tree_map (with_draft cs now.chain) now.tree ≡ Some m
     → HasGone has means cs popped x m (went.On next))
     → GoesOnReplaying has means cs was next
 gone_more has means cs was now popped next x map start g chain ran last went =
@@ -67,7 +67,7 @@ gone_more has means cs was now popped next x map start g chain ran last went =
       chain = same;
       ran = h.3 ∙ ap (λ v. v.items ++ x ∷ []) ran ∙ ap (λ (w : List Mutation). w ++ x ∷ []) g.ran
           ∙ append_assoc was.ran.items g.own (x ∷ []);
-      mapped = λ n q. ap (λ (c : Chain). tree_map (drafted cs c) next.tree) (sym (chain ∙ g.chain))
+      mapped = λ n q. ap (λ (c : Chain). tree_map (with_draft cs c) next.tree) (sym (chain ∙ g.chain))
           ∙ (went (replayed means n g.own) (mapped_gone has means cs was now n g q)).4
           ∙ ap (λ (e : Entries). Some e) (sym (replayed-append means n g.own (x ∷ [])));
     }
@@ -82,8 +82,8 @@ pub asked_gone : (has : Bytes → Bool) (means : Meanings) (cs : Contents) (s : 
     → IsAskedRun means cs s last (Pulled ticket r) run × IsFresh has cs run
 asked_gone has means cs s last ticket r now popped x run m l new accepted chain ran behind h =
     let same : run.chain ≡ now.chain = h.1 ∙ chain in let after = after_pull s r in
-    let b = begun (drafted cs run.chain) run.map run.map.tree m refl h.5
-    (ap (λ (c : Chain). tree_map (drafted cs c) run.map.tree) h.1 ∙ h.6) in
+    let b = begun (with_draft cs run.chain) run.map run.map.tree m refl h.5
+    (ap (λ (c : Chain). tree_map (with_draft cs c) run.map.tree) h.1 ∙ h.6) in
     let list : left_of run ≡ reverse now.behind.items =
     ap (λ (y : Mutation). y ∷ reverse run.behind.items) h.4 ∙ ap (λ v. x ∷ reverse v.items) h.2
     ∙ sym (reverse_last now.behind.items popped.behind.items x behind) in
@@ -110,6 +110,6 @@ next_gone has means cs was now popped x run map g behind h = record {
   had = g.had;
   order = ap (λ (w : List Mutation). g.own ++ w) (ap (λ (y : Mutation). y ∷ reverse run.behind.items) h.4
       ∙ ap (λ v. x ∷ reverse v.items) h.2 ∙ sym (reverse_last now.behind.items popped.behind.items x behind)) ∙ g.order;
-  start = (begun (drafted cs run.chain) run.map run.map.tree (replayed means map g.own) refl h.5
-      (ap (λ (c : Chain). tree_map (drafted cs c) run.map.tree) h.1 ∙ h.6)).2;
+  start = (begun (with_draft cs run.chain) run.map run.map.tree (replayed means map g.own) refl h.5
+      (ap (λ (c : Chain). tree_map (with_draft cs c) run.map.tree) h.1 ∙ h.6)).2;
 }

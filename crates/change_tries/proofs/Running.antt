@@ -39,7 +39,7 @@ use Rattle.change_tries.specs.Proposing.{asked_reply, change_asked, kind_left}
 use Rattle.change_tries.proofs.Drafting.{refused_for, told_unproposed}
 use Rattle.change_tries.proofs.Making.{reply_next}
 use Rattle.change_tries.specs.Runs.{HasMap, IsBehind, IsFirstStep, IsNext, IsOn, IsOnLeft, IsRunOf, Leads, NeedsNoRun}
-use Rattle.change_tries.specs.Runs.{drafted, map_by, run_map, run_start}
+use Rattle.change_tries.specs.Runs.{with_draft, map_by, run_map, run_start}
 use Rattle.change_tries.specs.declared.runs.Chain.{Chain}
 use Rattle.change_tries.specs.declared.runs.NextStep.{NextStep}
 use Rattle.change_tries.specs.declared.runs.NextStep.TheVariants as step
@@ -47,10 +47,10 @@ use Rattle.change_tries.specs.declared.runs.AskedRun.{AskedRun}
 
 -- it ran as the caller says
 pub has_run : (means : Meanings) (cs : Contents) (run : AskedRun) (ran : Ran) → HasMap cs run → IsRunOf means cs run ran
-    → HasRun (drafted cs run.chain) (meaning_of means run.mutation (run_start cs run))
+    → HasRun (with_draft cs run.chain) (meaning_of means run.mutation (run_start cs run))
     (record { ran = ran; tree = run.map.tree })
 has_run means cs run ran some is =
-    (run_map cs run, some_map (tree_map (drafted cs run.chain) run.map.tree) some, is)
+    (run_map cs run, some_map (tree_map (with_draft cs run.chain) run.map.tree) some, is)
 
 -- some of the mutations that are left were run
 pub leads_on : (means : Meanings) (cs : Contents) (after : State) (chain : Chain) (ran own behind rest : List Mutation)
@@ -72,7 +72,7 @@ leads_on means cs after chain ran own behind rest map order l = record {
 pub leads_begun : (means : Meanings) (cs : Contents) (after : State) (chain : Chain) (s : State)
     (ran behind : List Mutation)
     → length cs ≡ chain.draft.first → AreNeeded chain.draft.first chain.draft.nodes (chain.tip.commit ∷ [])
-    → IsTip means (drafted cs chain) chain.tip s → s.closed ≡ false → s.pending ≡ [] → ran ≡ []
+    → IsTip means (with_draft cs chain) chain.tip s → s.closed ≡ false → s.pending ≡ [] → ran ≡ []
     → with_more s behind ≡ after → Leads means cs after chain ran behind (view_of means s)
 leads_begun means cs after chain s ran behind first needed tip opened bare none whole = record {
   first = first;
@@ -88,7 +88,7 @@ leads_begun means cs after chain s ran behind first needed tip opened bare none 
 -- all were run
 pub leads_ended : (means : Meanings) (cs : Contents) (after : State) (chain : Chain) (s : State) (ran : List Mutation)
     → length cs ≡ chain.draft.first → AreNeeded chain.draft.first chain.draft.nodes (chain.tip.commit ∷ [])
-    → IsTip means (drafted cs chain) chain.tip s → s.closed ≡ false → s.pending ≡ []
+    → IsTip means (with_draft cs chain) chain.tip s → s.closed ≡ false → s.pending ≡ []
     → with_more s ran ≡ after → Leads means cs after chain ran [] (replayed means (view_of means s) ran)
 leads_ended means cs after chain s ran first needed tip opened bare whole = record {
   first = first;

@@ -24,7 +24,7 @@ use Rattle.commit_graph.specs.Reach.{IsDropped, Falls, Reaches, stamps_of}
 use Rattle.linearized.specs.Trying.{IsMove}
 use Rattle.linearized.specs.declared.trying.Published.{Published}
 use Rattle.commit_publishing.specs.Placed.{LieBelow}
-use Rattle.commit_publishing.specs.Retiring.{AreFreed, GivenUp, GivesUp, drafted, entries_of, unneeded}
+use Rattle.commit_publishing.specs.Retiring.{AreFreed, GivenUp, GivesUp, draft_deeds, entries_drawn, unneeded}
 use Rattle.commit_publishing.specs.Stamped.{AreFrom}
 use Rattle.change_tries.specs.Proposing.{kind_for}
 
@@ -55,7 +55,7 @@ pub record FreesNone (may : ℕ → Type 0) (count : ℕ) (old new : SeatState) 
   pub given : List GivenUp
   pub few : length given ≤ count
   pub back : GivesBack may given old new new.view.deeds
-  pub own : own new.mark ≡ own old.mark ++ entries_of given
+  pub own : own new.mark ≡ own old.mark ++ entries_drawn given
 
 -- The change was made from `base`, by a move of the seat to `to`: at `base` the head was when so much of the book had
 -- been seen. First the seat gave up drafts, so many at most; then it placed the draft of which `to` is one, and from
@@ -82,9 +82,10 @@ pub record FreesFor (may : ℕ → Type 0) (count : ℕ) (old new : SeatState) (
   pub few : length given ≤ count
   pub lost : List Deed
   pub back : GivesBack may given old new lost
-  pub own : own new.mark ≡ own old.mark ++ (entries_of given
+  pub own : own new.mark ≡ own old.mark ++ (entries_drawn given
       ++ drafted_by old.mark.seat first contents ∷ moved old.mark.seat to change ∷ [])
-  pub freed : AreFreed old.table.sizes.slots new.view.reached (map slot_of left) (drafted (map slot_of refs) [] lost)
+  pub freed : AreFreed old.table.sizes.slots new.view.reached (map slot_of left) (draft_deeds
+      (map slot_of refs) [] lost)
       new.view.deeds
 
 -- What a call did to slots and to the book that made this change, or none: so many drafts at most were given up.

@@ -1,9 +1,9 @@
 -- The root of a map, known by the commit at which queries read it.
 use Rattle.std.specs.Prelude.{◌≡◌, Option, Some, None, IsSome}
-use Rattle.std.specs.Coded.{Coded, codes, coded_list, coded_ℕ}
-use Rattle.std.specs.FinMap as finite
+use Rattle.std.specs.Coded.{codes}
 use Rattle.group_history.specs.Map.{Entries}
 use Rattle.group_history.specs.Refs.{stamp_of}
+use Rattle.group_history.specs.State.{entries_coded}
 use Rattle.group_history.specs.Spelling.{Contents, Version, version_at, map_at}
 use Rattle.change_tries.specs.declared.views.Rooted.{Rooted}
 
@@ -18,7 +18,4 @@ IsRooted cs r = IsSome (map_at cs (stamp_of r.root))
     × (read_in (version_at cs (stamp_of r.commit)) ≡ map_at cs (stamp_of r.root))
 
 -- two maps can be told apart, so a type may keep that they are equal
-pub entries_coded : Coded Entries
-entries_coded = finite.code (coded_list coded_ℕ) (coded_list coded_ℕ)
-
 pub ruleset maps = (codes, entries_coded)

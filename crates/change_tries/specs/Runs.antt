@@ -30,19 +30,19 @@ use Rattle.change_tries.specs.declared.runs.NextStep.{NextStep}
 use Rattle.change_tries.specs.declared.runs.NextStep.TheVariants as step
 
 -- what is placed, and the draft behind it
-abbrev pub drafted : Contents → Chain → Contents
-drafted cs chain = with_nodes cs chain.draft.nodes
+abbrev pub with_draft : Contents → Chain → Contents
+with_draft cs chain = with_nodes cs chain.draft.nodes
 
 -- the map where the run begins: that of the run with all that it wrote put back
 abbrev pub run_start : Contents → AskedRun → Entries
-run_start cs run = map_then (drafted cs run.chain) run.map
+run_start cs run = map_then (with_draft cs run.chain) run.map
 
 -- the map as the run has left it so far
 abbrev pub run_map : Contents → AskedRun → Entries
-run_map cs run = map_now (drafted cs run.chain) run.map
+run_map cs run = map_now (with_draft cs run.chain) run.map
 
 abbrev pub HasMap : Contents → AskedRun → Type 0
-HasMap cs run = IsSome (tree_map (drafted cs run.chain) run.map.tree)
+HasMap cs run = IsSome (tree_map (with_draft cs run.chain) run.map.tree)
 
 -- it is the same run, whatever its map is
 abbrev pub IsSameRun : AskedRun → AskedRun → Type 0
@@ -60,7 +60,7 @@ pub record Leads (means : Meanings) (cs : Contents) (after : State) (chain : Cha
   pub first : length cs ≡ chain.draft.first
   pub needed : AreNeeded chain.draft.first chain.draft.nodes (chain.tip.commit ∷ [])
   pub basis : State
-  pub tip : IsTip means (drafted cs chain) chain.tip basis
+  pub tip : IsTip means (with_draft cs chain) chain.tip basis
   pub opened : basis.closed ≡ false
   pub mapped : map ≡ replayed means (view_of means basis) ran
   pub whole : with_more basis (ran ++ behind) ≡ after
@@ -83,7 +83,7 @@ pub record IsNewMutation (means : Meanings) (cs : Contents) (s : State) (last : 
     Type 0 where
   pub first : length cs ≡ chain.draft.first
   pub needed : AreNeeded chain.draft.first chain.draft.nodes (chain.tip.commit ∷ [])
-  pub tip : IsTip means (drafted cs chain) chain.tip s
+  pub tip : IsTip means (with_draft cs chain) chain.tip s
   pub next : IsNext s last x
 
 -- the mutations that are left to be run, in order
@@ -94,7 +94,7 @@ left_of run = run.mutation ∷ reverse run.behind.items
 -- the map of the state, is done; a pull is accepted.
 abbrev pub IsJudged : Meanings → Contents → State → ℕ → Change → AskedRun → Type 0
 IsJudged means cs s last (Mutated x) run = (run.mutation ≡ x) × (run.behind.items ≡ []) × IsNext s last x
-    × IsTip means (drafted cs run.chain) run.chain.tip s × (run_start cs run ≡ view_of means s)
+    × IsTip means (with_draft cs run.chain) run.chain.tip s × (run_start cs run ≡ view_of means s)
 IsJudged means cs s last (Pulled ticket r) run = IsAccepted means s (Pulled ticket r) × HasNew run.chain
 IsJudged means cs s last Closed run = ⊥
 

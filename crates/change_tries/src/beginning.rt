@@ -20,7 +20,7 @@ ghost use Rattle.change_drafts.specs.Running.{MayRun};
 ghost use Rattle.change_tries.specs.Missing.{IsStoreOrMemory, IsStoreRefusal, IsStop};
 ghost use Rattle.change_tries.specs.Places.{state_at};
 ghost use Rattle.change_tries.specs.Proposing.{IsDraftSpot, MayAsk, StaysFound, asked_reply, change_asked};
-ghost use Rattle.change_tries.specs.Runs.{HasNew, IsFirstStep, IsNewMutation, IsOnLeft, MayStep, drafted, with_more};
+ghost use Rattle.change_tries.specs.Runs.{HasNew, IsFirstStep, IsNewMutation, IsOnLeft, MayStep, with_draft, with_more};
 
 use crate::ending::{end_new, finish, go_on};
 use crate::places::At;
@@ -32,11 +32,18 @@ use change_drafts::{
     run_pending,
 };
 use chunk_slots::Slots;
-use commit_graph::{Base, LastId, StoreNodes};
+use commit_graph::{Base, LastId, SoughtId, StoreNodes};
 use group_history::{Change, ConfirmedIds, Cookie, Ended, Means, Mutation, PullOk, Ref, Refusal};
 use map_chunks::Draft;
 use map_tree::Tree;
 use std::marker::Brand;
+
+/// Where a client's last id was found, and whether the way there was long.
+#[derive(Clone, Copy)]
+pub(crate) struct CaughtUp {
+    pub(crate) at: Ref,
+    pub(crate) is_far: bool,
+}
 
 // The commit at which a client's last id is found, which a mutation has to follow: the one where the call stands,
 // unless it is another id there.
@@ -44,20 +51,25 @@ pub(crate) fn catch_up<M: Means, S: Slots<M>>(
     at: &At<'_, M, S>,
     change: &Change,
     found: LastId,
-) -> Result<Ref, Refusal>
+) -> Result<CaughtUp, Refusal>
     requires asks { MayAsk (drawn at.now.mark.log) found change.now }
-    ensures kept { IfOk result (λ there. StaysFound (drawn at.now.mark.log) found
-        (record { at = there; id = found.id }) change.now) }
+    ensures kept { IfOk result (λ caught. StaysFound (drawn at.now.mark.log) found
+        (record { at = caught.at; id = found.id }) change.now) }
     ensures err { IfErr result (IsStoreRefusal S.reused) }
 {
-    let Change::Mutated(mutation) = change else {
-        return Ok(found.at);
+    let still = CaughtUp {
+        at: found.at,
+        is_far: false,
     };
-    let id = last_known(at, &mutation.client, Some(found))?;
+    let Change::Mutated(mutation) = change else {
+        return Ok(still);
+    };
+    let SoughtId { id, is_far } = last_known(at, &mutation.client, Some(found))?;
     if id != found.id {
-        return Ok(found.at);
+        return Ok(still);
     }
-    Ok(at.commit)
+    let there = at.commit;
+    Ok(CaughtUp { at: there, is_far })
 }
 
 // The group's run of a new mutation at the tip, if it has the mutator.
@@ -67,8 +79,8 @@ fn run_new<'a, M: Runs, S: Slots<M>>(
     mutation: &Mutation,
 ) -> Result<OwnRun, Refusal>
     requires behind { chain.now.draft.first ≡ length (drawn at.now.mark.log) }
-    requires tip { IsTip M.means (drafted (drawn at.now.mark.log) chain.now) chain.now.tip (state_at at.now) }
-    ensures ran { IfOk result (MayRun (drafted (drawn at.now.mark.log) chain.now) (M.has mutation.now.name)
+    requires tip { IsTip M.means (with_draft (drawn at.now.mark.log) chain.now) chain.now.tip (state_at at.now) }
+    ensures ran { IfOk result (MayRun (with_draft (drawn at.now.mark.log) chain.now) (M.has mutation.now.name)
         (meaning_of M.means mutation.now (view_of M.means (state_at at.now))) (view_of M.means (state_at at.now))) }
     ensures err { IfErr result (IsStoreOrMemory S.reused) }
 {
@@ -131,10 +143,10 @@ pub(crate) fn begin_mutation<M: Runs, S: Slots<M>>(
 {
     check_next(at, mutation, before)?;
     let again = mutation.clone()?;
-    let DraftSpot { tip, first } = spot;
+    let DraftSpot { tip, first, tells } = spot;
     let group = at.group;
     let draft = Draft::new(group.shared.alloc, first);
-    begin_next(at, Chain { draft, tip }, again, before.id)
+    begin_next(at, Chain { draft, tip, tells }, again, before.id)
 }
 
 // The pulled map after the patch, drafted with its snapshot.
@@ -147,7 +159,7 @@ fn draft_patched<'a, M: Runs, S: Slots<M>>(
 ) -> Result<Chain, Refusal>
     requires spot { IsDraftSpot M.means at.now spot.tip spot.first }
     requires before { IsBaseOf (drawn at.now.mark.log) (state_at at.now) before.now }
-    ensures tip { IfOk result (λ chain. HasTip (drafted (drawn at.now.mark.log) chain) chain.tip (record {
+    ensures tip { IfOk result (λ chain. HasTip (with_draft (drawn at.now.mark.log) chain) chain.tip (record {
       state = pulled_state (patched (state_at at.now).pulled pull.now.patch) pull.now.cookie confirmed;
       read = patched (state_at at.now).pulled pull.now.patch;
     })) }
@@ -172,7 +184,8 @@ fn draft_patched<'a, M: Runs, S: Slots<M>>(
         pull,
         confirmed,
     )?;
-    Ok(Chain { draft, tip })
+    let tells = false;
+    Ok(Chain { draft, tip, tells })
 }
 
 // The map that mutations leave which stay pending, if the group has their mutators.
@@ -182,9 +195,9 @@ fn run_left<'a, M: Runs, S: Slots<M>>(
     left: &[Mutation],
 ) -> Result<Option<Tree>, Refusal>
     requires behind { chain.now.draft.first ≡ length (drawn at.now.mark.log) }
-    requires tip { (s : State) × IsTip M.means (drafted (drawn at.now.mark.log) chain.now) chain.now.tip s }
-    ensures map { (s : State) → IsTip M.means (drafted (drawn at.now.mark.log) chain.now) chain.now.tip s
-        → IfOk result (λ found. IfSome found (λ tree. tree_map (drafted (drawn at.now.mark.log) chain.now) tree
+    requires tip { (s : State) × IsTip M.means (with_draft (drawn at.now.mark.log) chain.now) chain.now.tip s }
+    ensures map { (s : State) → IsTip M.means (with_draft (drawn at.now.mark.log) chain.now) chain.now.tip s
+        → IfOk result (λ found. IfSome found (λ tree. tree_map (with_draft (drawn at.now.mark.log) chain.now) tree
         ≡ Some (replayed M.means (view_of M.means s) left.now))) }
     ensures err { IfErr result (IsStoreOrMemory S.reused) }
 {
@@ -206,11 +219,12 @@ fn begin_left<M: Runs, S: Slots<M>>(
 ) -> Result<NextStep, Refusal>
     requires behind { chain.draft.first ≡ length (drawn at.now.mark.log) }
     requires new { HasNew chain }
-    requires tip { (s : State) × IsTip M.means (drafted (drawn at.now.mark.log) chain) chain.tip s × (s.closed ≡ false)
+    requires tip { (s : State) × IsTip M.means (with_draft (drawn at.now.mark.log) chain) chain.tip s
+        × (s.closed ≡ false)
         × (s.pending ≡ []) }
     requires needed { AreNeeded chain.draft.first chain.draft.nodes (chain.tip.commit ∷ []) }
     ensures step { (s : State) (last : ℕ) (ticket : Cookied) (r : Pull)
-        → IsTip M.means (drafted (drawn at.now.mark.log) chain) chain.tip s → s.closed ≡ false → s.pending ≡ []
+        → IsTip M.means (with_draft (drawn at.now.mark.log) chain) chain.tip s → s.closed ≡ false → s.pending ≡ []
         → IsAccepted M.means (state_at at.now) (changed.Pulled ticket r)
         → with_more s left.items ≡ after_pull (state_at at.now) r
         → IfOk result (MayStep M.has M.means (drawn at.now.mark.log) at.now.commit (state_at at.now) last

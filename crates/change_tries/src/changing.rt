@@ -22,6 +22,18 @@ use chunk_slots::Store;
 use commit_graph::{ClientSeat, LastId};
 use group_history::{Change, Mutators, Ref, Refusal};
 
+// How long a call rests behind its first lost try, in turns of a loop, and how often that is doubled at most.
+const REST: u32 = 16;
+
+const DOUBLINGS: u32 = 9;
+
+// Rests behind a lost try, longer each time: who tries again at once slows down who is ahead.
+fn rest(lost: u32) {
+    for _ in 0..REST << lost.min(DOUBLINGS) {
+        std::hint::spin_loop();
+    }
+}
+
 /// Asks for the first run of a change, which lost so many tries to others before; or ends it, where it needs none. It
 /// is tried anew where others moved the head first, `tries` times in all and once at least.
 pub fn ask_from<M: Runs, S: Store<M>>(
@@ -49,7 +61,7 @@ pub fn ask_from<M: Runs, S: Store<M>>(
             Some(progress) => {
                 return progress;
             }
-            None => {}
+            None => rest(tried),
         }
     }
     Progress::Ended(Err(Refusal::Moved))

@@ -21,13 +21,15 @@ ghost use Rattle.change_tries.specs.Missing.{IsStoreOrMemory, IsStop};
 ghost use Rattle.change_tries.specs.Places.{state_at};
 ghost use Rattle.change_tries.specs.Proposing.{asked_reply, change_asked};
 ghost use Rattle.change_tries.specs.Runs.{HasNew, IsAskedRun, IsBehind, IsNewMutation, IsOn, IsRunOf, Leads, MayStep};
-ghost use Rattle.change_tries.specs.Runs.{NeedsNoRun, drafted};
+ghost use Rattle.change_tries.specs.Runs.{NeedsNoRun, with_draft};
 
 use crate::places::At;
 use crate::proposing::{Proposal, Request, kind_at_end};
 use crate::runs::{AskedRun, BoxedRun, Chain, EndedRun, NextStep, Replaying};
+use crate::views::told_if;
 use change_drafts::{
-    Left, Replayed, Run, RunMap, Runs, Setting, add_local, add_replayed, replay_on, tree_if_done,
+    Left, NewLocal, Replayed, Run, RunMap, Runs, Setting, add_local, add_replayed, replay_on,
+    tree_if_done,
 };
 use chunk_slots::Slots;
 use commit_graph::StoreNodes;
@@ -45,7 +47,7 @@ pub(crate) fn end_new<M: Runs, S: Slots<M>>(
     run: Run,
 ) -> Result<NextStep, Refusal>
     requires new { IsNewMutation M.means (drawn at.now.mark.log) (state_at at.now) last mutation chain }
-    requires ran { HasRun (drafted (drawn at.now.mark.log) chain)
+    requires ran { HasRun (with_draft (drawn at.now.mark.log) chain)
         (meaning_of M.means mutation (view_of M.means (state_at at.now))) run }
     ensures step { IfOk result (MayStep M.has M.means (drawn at.now.mark.log) at.now.commit (state_at at.now) last
         (changed.Mutated mutation)) }
@@ -54,10 +56,16 @@ pub(crate) fn end_new<M: Runs, S: Slots<M>>(
         (asked_reply M.means (state_at at.now) last (changed.Mutated mutation))) }
     ensures late { IfErr result (λ e. e ≡ refusal.Stamps → IsLate chain.draft.first) }
 {
-    let Chain { mut draft, tip } = chain;
+    let Chain {
+        mut draft,
+        tip,
+        tells,
+    } = chain;
     let group = at.group;
     let tree = tree_if_done(run)?;
-    let after = add_local(group.shared.alloc, &mut draft, tree, tip, mutation)?;
+    let told = told_if(at, tells)?;
+    let new = NewLocal { mutation, told };
+    let after = add_local(group.shared.alloc, &mut draft, tree, tip, new)?;
     Ok(NextStep::Move(Proposal {
         base: at.commit,
         draft,
@@ -74,20 +82,21 @@ pub(crate) fn finish<'a, M: Runs, S: Slots<M>>(
     tree: Tree,
 ) -> Result<NextStep, Refusal>
     requires behind { chain.draft.first ≡ length (drawn at.now.mark.log) }
-    requires tip { (s : State) × IsTip M.means (drafted (drawn at.now.mark.log) chain) chain.tip s × (s.closed ≡ false)
-        × (tree_map (drafted (drawn at.now.mark.log) chain) tree
+    requires tip { (s : State) × IsTip M.means (with_draft (drawn at.now.mark.log) chain) chain.tip s
+        × (s.closed ≡ false)
+        × (tree_map (with_draft (drawn at.now.mark.log) chain) tree
         ≡ Some (replayed M.means (view_of M.means s) ran.items)) }
     ensures step { (last : ℕ) (ticket : Cookied) (r : Pull) (map : Entries)
         → IsAccepted M.means (state_at at.now) (changed.Pulled ticket r)
         → Leads M.means (drawn at.now.mark.log) (after_pull (state_at at.now) r) chain ran.items [] map → HasNew chain
-        → tree_map (drafted (drawn at.now.mark.log) chain) tree ≡ Some map
+        → tree_map (with_draft (drawn at.now.mark.log) chain) tree ≡ Some map
         → IfOk result (MayStep M.has M.means (drawn at.now.mark.log) at.now.commit (state_at at.now) last
         (changed.Pulled ticket r)) }
     ensures none { IfOk result NeedsNoRun }
     ensures err { IfErr result (IsStop S.reused) }
     ensures late { IfErr result (λ e. e ≡ refusal.Stamps → IsLate chain.draft.first) }
 {
-    let Chain { mut draft, tip } = chain;
+    let Chain { mut draft, tip, .. } = chain;
     let group = at.group;
     let kind = kind_at_end(ran.len());
     let setting = Setting {
@@ -124,9 +133,9 @@ fn replay_next<'a, M: Runs, S: Slots<M>>(
     mutation: &Mutation,
 ) -> Result<Replayed, Refusal>
     requires behind { chain.now.draft.first ≡ length (drawn at.now.mark.log) }
-    requires map { IsSome (tree_map (drafted (drawn at.now.mark.log) chain.now) tree) }
-    ensures left { (map : Entries) → tree_map (drafted (drawn at.now.mark.log) chain.now) tree ≡ Some map
-        → IfOk result (MayReplay (drafted (drawn at.now.mark.log) chain.now) (M.has mutation.now.name) M.means map
+    requires map { IsSome (tree_map (with_draft (drawn at.now.mark.log) chain.now) tree) }
+    ensures left { (map : Entries) → tree_map (with_draft (drawn at.now.mark.log) chain.now) tree ≡ Some map
+        → IfOk result (MayReplay (with_draft (drawn at.now.mark.log) chain.now) (M.has mutation.now.name) M.means map
         mutation.now) }
     ensures err { IfErr result (IsStoreOrMemory S.reused) }
 {
@@ -146,9 +155,9 @@ fn run_next<M: Runs, S: Slots<M>>(
     mutation: Mutation,
 ) -> Result<Went, Refusal>
     requires behind { replaying.chain.draft.first ≡ length (drawn at.now.mark.log) }
-    requires map { IsSome (tree_map (drafted (drawn at.now.mark.log) replaying.chain) replaying.tree) }
+    requires map { IsSome (tree_map (with_draft (drawn at.now.mark.log) replaying.chain) replaying.tree) }
     ensures went { (map : Entries)
-        → tree_map (drafted (drawn at.now.mark.log) replaying.chain) replaying.tree ≡ Some map
+        → tree_map (with_draft (drawn at.now.mark.log) replaying.chain) replaying.tree ≡ Some map
         → IfOk result (HasGone M.has M.means (drawn at.now.mark.log) replaying mutation map) }
     ensures err { IfErr result (IsStoreOrMemory S.reused) }
 {
@@ -191,16 +200,16 @@ pub(crate) fn go_on<M: Runs, S: Slots<M>>(
 ) -> Result<NextStep, Refusal>
     requires leads { (after : State) × (map : Entries) × Leads M.means (drawn at.now.mark.log) after replaying.chain
         replaying.ran.items (reverse replaying.behind.items) map
-        × (tree_map (drafted (drawn at.now.mark.log) replaying.chain) replaying.tree ≡ Some map) }
+        × (tree_map (with_draft (drawn at.now.mark.log) replaying.chain) replaying.tree ≡ Some map) }
     ensures step { (last : ℕ) (ticket : Cookied) (r : Pull) (map : Entries)
         → IsAccepted M.means (state_at at.now) (changed.Pulled ticket r)
         → Leads M.means (drawn at.now.mark.log) (after_pull (state_at at.now) r) replaying.chain replaying.ran.items
         (reverse replaying.behind.items) map → HasNew replaying.chain
-        → tree_map (drafted (drawn at.now.mark.log) replaying.chain) replaying.tree ≡ Some map
+        → tree_map (with_draft (drawn at.now.mark.log) replaying.chain) replaying.tree ≡ Some map
         → IfOk result (MayStep M.has M.means (drawn at.now.mark.log) at.now.commit (state_at at.now) last
         (changed.Pulled ticket r)) }
     ensures next { (map : Entries)
-        → tree_map (drafted (drawn at.now.mark.log) replaying.chain) replaying.tree ≡ Some map
+        → tree_map (with_draft (drawn at.now.mark.log) replaying.chain) replaying.tree ≡ Some map
         → IfOk result (IsOn M.has M.means (drawn at.now.mark.log) (reverse replaying.behind.items) map) }
     ensures err { IfErr result (IsStop S.reused) }
     ensures late { IfErr result (λ e. e ≡ refusal.Stamps → IsLate replaying.chain.draft.first) }
@@ -265,10 +274,10 @@ fn left_by_run<'a, M: Means, S: Slots<M>>(
     ran: Ran,
 ) -> Result<Tree, Refusal>
     requires behind { chain.now.draft.first ≡ length (drawn at.now.mark.log) }
-    requires map { IsSome (tree_map (drafted (drawn at.now.mark.log) chain.now) map.tree) }
-    ensures left { (meaning : Meaning) → RunsAs meaning ran (map_now (drafted (drawn at.now.mark.log) chain.now) map)
-        → IfOk result (λ tree. tree_map (drafted (drawn at.now.mark.log) chain.now) tree
-        ≡ Some (left_by meaning (map_then (drafted (drawn at.now.mark.log) chain.now) map))) }
+    requires map { IsSome (tree_map (with_draft (drawn at.now.mark.log) chain.now) map.tree) }
+    ensures left { (meaning : Meaning) → RunsAs meaning ran (map_now (with_draft (drawn at.now.mark.log) chain.now) map)
+        → IfOk result (λ tree. tree_map (with_draft (drawn at.now.mark.log) chain.now) tree
+        ≡ Some (left_by meaning (map_then (with_draft (drawn at.now.mark.log) chain.now) map))) }
     ensures err { IfErr result (IsStoreOrMemory S.reused) }
 {
     let group = at.group;

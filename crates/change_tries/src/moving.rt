@@ -16,7 +16,7 @@ ghost use Rattle.head_word.specs.Marks.{own};
 ghost use Rattle.linearized.specs.Trying.{Ends, IsBase, IsLost, IsMove, IsWon, added};
 ghost use Rattle.linearized.specs.declared.trying.Published.TheVariants.{Won};
 ghost use Rattle.commit_publishing.specs.Placed.{FoundNoneFor};
-ghost use Rattle.commit_publishing.specs.Retiring.{AreFreed, drafted};
+ghost use Rattle.commit_publishing.specs.Retiring.{AreFreed, draft_deeds};
 ghost use Rattle.change_tries.specs.Leaving.{AreLeft, FreesWhatIsLeft};
 ghost use Rattle.change_tries.specs.Changing.{FreesMove};
 ghost use Rattle.change_tries.specs.Missing.{IsStoreOrMemory};
@@ -63,7 +63,7 @@ fn exchange<M: Means, S: Store<M>>(
     requires reading { IsReading S.reused shared.now seat.old }
     requires none { S.reused → seat.old.view.taken ≡ [] }
     requires drafted { S.reused → (before : List Deed)
-        × (seat.old.view.deeds ≡ drafted (map slot_of to.now.refs.now) [] before) }
+        × (seat.old.view.deeds ≡ draft_deeds (map slot_of to.now.refs.now) [] before) }
     requires among { Contains to.now.refs.now to.now.new }
     requires follows { IsChangeFrom M.means (drawn seat.old.mark.log) to.now.base to.now.new to.now.change.now }
     ensures seat { IsSameSeat seat.old seat.new }

@@ -40,11 +40,13 @@ pub struct Request<'a> {
     pub before: LastId,
 }
 
-/// Where new commits are drafted: behind the tip of a chain, under stamps from the first one on.
+/// Where new commits are drafted: behind the tip of a chain, under stamps from the first one on; and whether a new
+/// mutation's is to tell each client's last id.
 #[derive(Clone, Copy)]
 pub struct DraftSpot {
     pub tip: Tip,
     pub first: u64,
+    pub tells: bool,
 }
 
 /// The draft that leads from a commit to a change, its commit of the state after the change, and which slots it may
@@ -70,7 +72,7 @@ pub fn check_next<M: Means, S: Slots<M>>(
         × (mutate_reply M.means (state_at at.now) before.id mutation.now ≡ Err refusal.Stale))) }
 {
     let last = last_known(at, &mutation.client, Some(before))?;
-    if last != before.id {
+    if last.id != before.id {
         return Err(Refusal::Stale);
     }
     Ok(())

@@ -104,6 +104,7 @@ fn begin_request<'a, M: Runs, S: Slots<M>>(
     at: &At<'a, M, S>,
     first: u64,
     request: &Request<'_>,
+    tells: bool,
 ) -> Result<NextStep, Refusal>
     requires asks { MayAsk (drawn at.now.mark.log) request.now.before request.now.call.change.now }
     requires first { first ≡ next_stamp at.now.mark.log }
@@ -119,7 +120,7 @@ fn begin_request<'a, M: Runs, S: Slots<M>>(
         return Err(Refusal::Closed);
     }
     let tip = look.tip;
-    begin_open(at, DraftSpot { tip, first }, request)
+    begin_open(at, DraftSpot { tip, first, tells }, request)
 }
 
 /// What the change asks for first, drafted under stamps from `first` on. Where its client's last id was found by the
@@ -142,7 +143,7 @@ pub(crate) fn begin<M: Runs, S: Slots<M>>(
 {
     let LastId { id, .. } = *found;
     let there = catch_up(at, call.change, *found)?;
-    let before = LastId { at: there, id };
+    let before = LastId { at: there.at, id };
     *found = before;
     begin_request(
         at,
@@ -151,5 +152,6 @@ pub(crate) fn begin<M: Runs, S: Slots<M>>(
             call: *call,
             before,
         },
+        there.is_far,
     )
 }

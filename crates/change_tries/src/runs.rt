@@ -19,11 +19,12 @@ use map_tree::Tree;
 use std::alloc::{AllocError, Global};
 use std::marker::{Brand, Model};
 
-/// What is drafted, and the newest commit there.
+/// What is drafted, and the newest commit there; and whether the next one is to tell each client's last id.
 #[derive(Drop)]
 pub struct Chain {
     pub draft: Draft,
     pub tip: Tip,
+    pub tells: bool,
 }
 
 /// A run that a change asks for: on what it stands, the mutations that were run there, in order, its own mutation, its

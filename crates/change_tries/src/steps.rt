@@ -109,7 +109,7 @@ pub fn find_last<M: Means, S: Slots<M>>(
     ensures unpinned { S.reused → seat.new.view.pin ≡ Absent }
 {
     let at = pin_and_load(&group.shared, seat, tries)?;
-    let id = last_known(&At::new(group, seat, &seat.mark, at, tries), client, before);
+    let sought = last_known(&At::new(group, seat, &seat.mark, at, tries), client, before);
     unpin(&group.shared, seat);
-    Ok(LastId { at, id: id? })
+    Ok(LastId { at, id: sought?.id })
 }

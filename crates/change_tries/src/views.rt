@@ -1,7 +1,7 @@
 //! What is read at a commit of the shared group.
-ghost use Rattle.std.specs.Prelude.{◌≡◌, ◌<◌, ◌^◌, Some, IsSome, IfOk, IfErr};
+ghost use Rattle.std.specs.Prelude.{◌≡◌, ◌<◌, ◌^◌, true, Some, IsSome, IfOk, IfErr};
 ghost use Rattle.group_history.specs.Refs.{stamp_of};
-ghost use Rattle.group_history.specs.Spelling.{Version, map_at, version_at};
+ghost use Rattle.group_history.specs.Spelling.{Version, map_at, tells_right, version_at};
 ghost use Rattle.group_history.specs.State.{last_id, view_of};
 ghost use Rattle.head_word.specs.Books.{drawn};
 ghost use Rattle.commit_graph.specs.LastIds.{last_at};
@@ -11,8 +11,11 @@ ghost use Rattle.change_tries.specs.Places.{state_at};
 
 use crate::places::At;
 use chunk_slots::Slots;
-use commit_graph::{LastId, Nodes, StoreNodes, closed_of, cookie_of, last_id_since, read_root};
-use group_history::{Cookie, Means, Ref, Refusal, Stop, Text};
+use commit_graph::{
+    LastId, Nodes, SoughtId, StoreNodes, closed_of, cookie_of, last_id_since, last_ids_at,
+    read_root,
+};
+use group_history::{ConfirmedIds, Cookie, Means, Ref, Refusal, Stop, Text};
 use std::marker::Brand;
 use transactions::{Fixed, NamesContents};
 
@@ -68,13 +71,30 @@ pub(crate) fn last_known<M: Means, S: Slots<M>>(
     at: &At<'_, M, S>,
     client: &Text,
     before: Option<LastId>,
-) -> Result<u64, Refusal>
+) -> Result<SoughtId, Refusal>
     requires before { (found : Found) → before ≡ Some found
         → last_at (drawn at.now.mark.log) (stamp_of found.at) client.now ≡ Some found.id }
-    ensures id { IfOk result (λ id. id ≡ last_id (state_at at.now) client.now) }
-    ensures low { IfOk result (λ id. id < 2 ^ 53) }
+    ensures id { IfOk result (λ sought. sought.id ≡ last_id (state_at at.now) client.now) }
+    ensures low { IfOk result (λ sought. sought.id < 2 ^ 53) }
     ensures err { IfErr result (IsStoreRefusal S.reused) }
 {
     let mut nodes = at.nodes();
     Ok(last_id_since(&mut nodes, at.commit, client, before)?)
+}
+
+/// Each client's last id at the commit, if the next one is to tell them.
+pub(crate) fn told_if<M: Means, S: Slots<M>>(
+    at: &At<'_, M, S>,
+    tells: bool,
+) -> Result<Option<ConfirmedIds>, Refusal>
+    ensures right { IfOk result (λ told. tells_right told (state_at at.now) ≡ true) }
+    ensures err { IfErr result (IsStoreOrMemory S.reused) }
+{
+    if !tells {
+        return Ok(None);
+    }
+    let group = at.group;
+    let alloc = group.shared.alloc;
+    let mut nodes = at.nodes();
+    Ok(Some(last_ids_at(alloc, &mut nodes, at.commit)?))
 }

@@ -37,7 +37,7 @@ lost_again v t u same lost = subst (IsButPin v) (sym lost.0)
 
 -- after one that was not
 pub held_at_last : (v t u : View) (e n tries : ℕ) → IsButPin v t → v.reached ≤ t.reached → n < max 1 tries
-    → LosesPins n v t → one.IsPinned t u e → IsPinned v u tries
+    → LosesPins n v t → one.IsPinnedAt t u e → IsPinned v u tries
 held_at_last v t u e n tries same up few lost held = subst (λ (w : View). IsPinned v w tries) (sym held.0) record {
   view = ap (λ (z : View). record z {
     pin = Held e;

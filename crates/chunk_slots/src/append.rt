@@ -9,7 +9,7 @@ ghost use Rattle.std.specs.Prelude.{ℕ, ◌≡◌, ◌<◌, IfOk, IfErr, length
 ghost use Rattle.group_history.specs.Refs.{max_slots};
 ghost use Rattle.group_history.specs.declared.refs.Ref.{Ref as Reference};
 ghost use Rattle.group_history.specs.declared.refusals.Refusal.TheVariants.{NoMemory};
-ghost use Rattle.head_word.specs.Books.{opening};
+ghost use Rattle.head_word.specs.Books.{book_opening};
 ghost use Rattle.chunk_slots.specs.Inside.Appended.{numbers};
 
 use crate::missed::{Busy, StoreStop};
@@ -119,7 +119,7 @@ fn put_opening<R: Wait, M: Means>(
     mark: &Mark<M>,
 ) -> Result<(), Refusal>
     requires tag { nodes.now.tag ≡ numbers mark.now.book }
-    requires log { (seats : ℕ) × (at : Reference) × (mark.now.log ≡ opening seats at) }
+    requires log { (seats : ℕ) × (at : Reference) × (mark.now.log ≡ book_opening seats at) }
     ensures err { IfErr result (λ e. e ≡ NoMemory) }
 {
     put(rt, nodes, placed_leaf(alloc, mark)?)?;
@@ -150,7 +150,7 @@ impl<R, M: Means> Append<R, M> {
 impl<R: Wait + Drop, M: Means> Append<R, M> {
     // With the opening's nodes.
     fn with_opening(alloc: Global, rt: R, mark: &Mark<M>) -> Result<Append<R, M>, Refusal>
-        requires { (seats : ℕ) × (at : Reference) × (mark.now.log ≡ opening seats at) }
+        requires { (seats : ℕ) × (at : Reference) × (mark.now.log ≡ book_opening seats at) }
         ensures book { IfOk result (λ store. store ≡ mark.now.book) }
         ensures err { IfErr result (λ e. e ≡ NoMemory) }
     {

@@ -44,7 +44,7 @@ impl<M: Means> Arena<M> {
     ghost use Rattle.reader_claims.specs.Seats.{first_reserved};
     ghost use Rattle.group_history.specs.declared.refs.Ref.{Ref as Reference};
     ghost use Rattle.group_history.specs.declared.refusals.Refusal.TheVariants as refusal;
-    ghost use Rattle.head_word.specs.Books.{opening};
+    ghost use Rattle.head_word.specs.Books.{book_opening};
     ghost use Rattle.chunk_slots.specs.Contents.{IsContent};
     ghost use Rattle.chunk_slots.specs.declared.missed.StoreStop.TheVariants as missed;
 
@@ -92,7 +92,7 @@ impl<M: Means> Arena<M> {
         requires book { mark.now.book ≡ self.now.book }
         requires slots { self.now.claims.sizes.slots ≤ max_slots }
         requires both { (leaf < self.now.claims.sizes.slots) × (commit < self.now.claims.sizes.slots) }
-        requires log { (seats : ℕ) × (at : Reference) × (mark.now.log ≡ opening seats at) }
+        requires log { (seats : ℕ) × (at : Reference) × (mark.now.log ≡ book_opening seats at) }
         ensures { IfErr result (λ e. (e ≡ refusal.NoMemory) ⊎ (e ≡ refusal.Busy)) }
     {
         let lower = placed_leaf(alloc, mark)?;

@@ -31,13 +31,13 @@ pub struct ArenaSeat {
 
 impl Model for ArenaSeat {
     ghost use Rattle.reader_claims.specs.Seats.{Seated};
-    ghost use Rattle.chunk_slots.specs.Inside.Places.{IsWithin};
+    ghost use Rattle.chunk_slots.specs.Inside.Places.{IsWithinTable};
 
     ghost Value = { Seated };
 
     ghost view = { λ s. s.seat };
 
-    ghost invariant = { λ s. IsWithin s.seat };
+    ghost invariant = { λ s. IsWithinTable s.seat };
 }
 
 /// The seats of a new arena.
@@ -173,7 +173,7 @@ impl ArenaSeat {
         requires { self.old.table ≡ claims.now }
         ensures table { self.new.table ≡ self.old.table }
         ensures moves { Moves self.old.view self.new.view }
-        ensures pinned { result ≡ true → (e : ℕ) × held.IsPinned self.old.view self.new.view e }
+        ensures pinned { result ≡ true → (e : ℕ) × held.IsPinnedAt self.old.view self.new.view e }
         ensures raised { result ≡ false → held.IsUnpinned self.old.view self.new.view }
     {
         claims.pin(&mut self.seat).is_ok()

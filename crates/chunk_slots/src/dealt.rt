@@ -4,10 +4,10 @@ ghost use Rattle.std.specs.List.{All};
 ghost use Rattle.group_history.specs.Refs.{max_slots, max_seats};
 ghost use Rattle.group_history.specs.declared.refs.Ref.{Ref as Reference};
 ghost use Rattle.group_history.specs.declared.refusals.Refusal.TheVariants.{NoMemory, Busy, Full};
-ghost use Rattle.head_word.specs.Books.{opening};
+ghost use Rattle.head_word.specs.Books.{book_opening};
 ghost use Rattle.reader_claims.specs.Seats.{IsNew};
 ghost use Rattle.chunk_slots.specs.Seats.{IsOpening};
-ghost use Rattle.chunk_slots.specs.Inside.Openings.{HasBoth, IsReady};
+ghost use Rattle.chunk_slots.specs.Inside.Openings.{HasBoth, IsSeatReady};
 
 use crate::arena::Arena;
 use crate::arena_seat::{ArenaSeat, seat_all};
@@ -62,11 +62,11 @@ impl Dealt {
         mark: &Mark<M>,
     ) -> Result<(Arena<M>, Vec<ArenaSeat>), Refusal>
         requires slots { (self.claims.sizes.slots ≡ slots) × (slots ≤ max_slots) }
-        requires log { (seats : ℕ) × (at : Reference) × (mark.now.log ≡ opening seats at) }
+        requires log { (seats : ℕ) × (at : Reference) × (mark.now.log ≡ book_opening seats at) }
         ensures claims { IfOk result (λ made. made.0.claims ≡ self.claims) }
         ensures book { IfOk result (λ made. made.0.book ≡ mark.now.book) }
         ensures count { IfOk result (λ made. length made.1.items ≡ length self.others.items + 1) }
-        ensures seats { IfOk result (λ made. All (IsReady made.0.claims) made.1.items) }
+        ensures seats { IfOk result (λ made. All (IsSeatReady made.0.claims) made.1.items) }
         ensures opening { IfOk result (λ made.
             IsOpening made.0.claims.sizes (map (λ seat. seat.view) made.1.items) self.commit) }
         ensures err { IfErr result (λ e. (e ≡ NoMemory) ⊎ (e ≡ Busy)) }

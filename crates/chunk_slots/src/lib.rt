@@ -1,5 +1,6 @@
-//! Where the nodes of a group lie, and how readers and publishers reach them: a trait of stores, and two stores.
-//! `store` tells what a store promises, and `counted` the protocol of a slot that is used again.
+//! Where the nodes of a group lie, and how readers and publishers reach them: a trait of stores (allocators), and two
+//! stores. `store` tells what a store promises, and `counted` the protocol of a slot (cell of an arena) that is used
+//! again.
 //!
 //! A reader may come with a `Ref` whose slot holds another node by then. Three checks prevent a stale read. *The
 //! stamp*: each node lies beside its stamp, and `show` answers Gone where the slot has no node of the stamp looked for.

@@ -7,7 +7,7 @@ ghost use Rattle.group_history.specs.Naming.{content_of, drafted_content};
 ghost use Rattle.group_history.specs.Refs.{max_slots};
 ghost use Rattle.group_history.specs.declared.refs.Ref.{Ref as Reference};
 ghost use Rattle.group_history.specs.declared.refusals.Refusal.TheVariants.{NoMemory};
-ghost use Rattle.head_word.specs.Books.{empty_leaf, opening, opening_snapshot};
+ghost use Rattle.head_word.specs.Books.{empty_leaf, book_opening, opening_snapshot};
 ghost use Rattle.head_word.specs.declared.entry.Entry.{Entry};
 ghost use Rattle.chunk_slots.specs.Inside.Openings.{Knows};
 
@@ -44,7 +44,7 @@ fn opening_snapshot(alloc: Global, leaf: u32) -> Result<Node<Ref>, Refusal>
 
 /// The empty leaf, by a mark of a book that is new.
 pub(crate) fn placed_leaf<M: Means>(alloc: Global, mark: &Mark<M>) -> Result<Placed<M>, Refusal>
-    requires { (seats : ℕ) × (at : Reference) × (mark.now.log ≡ opening seats at) }
+    requires { (seats : ℕ) × (at : Reference) × (mark.now.log ≡ book_opening seats at) }
     ensures book { IfOk result (λ placed. placed.mark.book ≡ mark.now.book) }
     ensures stamp { IfOk result (λ placed. placed.stamp ≡ 0) }
     ensures err { IfErr result (λ e. e ≡ NoMemory) }
@@ -60,7 +60,7 @@ pub(crate) fn placed_snapshot<M: Means>(
     mark: &Mark<M>,
 ) -> Result<Placed<M>, Refusal>
     requires leaf { leaf < max_slots }
-    requires opened { (seats : ℕ) × (at : Reference) × (mark.now.log ≡ opening seats at) }
+    requires opened { (seats : ℕ) × (at : Reference) × (mark.now.log ≡ book_opening seats at) }
     ensures book { IfOk result (λ placed. placed.mark.book ≡ mark.now.book) }
     ensures stamp { IfOk result (λ placed. placed.stamp ≡ 1) }
     ensures err { IfErr result (λ e. e ≡ NoMemory) }

@@ -17,7 +17,7 @@ ghost use Rattle.std.specs.List.{All};
 ghost use Rattle.logbook.specs.Pages.{Book};
 ghost use Rattle.group_history.specs.Refs.{max_slots, max_seats};
 ghost use Rattle.group_history.specs.declared.refusals.Refusal.TheVariants as refusal;
-ghost use Rattle.head_word.specs.Books.{opening, opening_ref};
+ghost use Rattle.head_word.specs.Books.{book_opening, opening_ref};
 ghost use Rattle.head_word.specs.Marks.{seated};
 ghost use Rattle.reader_claims.specs.declared.view.View.{View};
 ghost use Rattle.reader_claims.specs.Lists.{In};
@@ -143,7 +143,7 @@ pub trait Store<M: Means>: Slots<M> {
         ensures seats { IfOk result (λ made. All
             (λ seat. (Self.home seat ≡ Self.serves made.0) × (Self.reused → IsIdle (Self.view seat))) made.1.items) }
         ensures marks { IfOk result (λ made. (slot : ℕ)
-            × (made.3.items ≡ seated made.2 (opening seats (opening_ref slot)) seats)
+            × (made.3.items ≡ seated made.2 (book_opening seats (opening_ref slot)) seats)
             × (Self.reused → IsOpening (Self.serves made.0).sizes (map Self.view made.1.items) slot)) }
         ensures err { IfErr result (λ e. (e ≡ refusal.NoMemory)
             ⊎ (Self.reused × ((e ≡ refusal.Busy) ⊎ (e ≡ refusal.Full)))) };

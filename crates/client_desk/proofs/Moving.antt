@@ -20,7 +20,7 @@ use Rattle.client_desk.specs.declared.sitting.Sitting.{Sitting}
 use Rattle.client_desk.specs.declared.sitting.Sitting.TheVariants as sits
 use Rattle.client_desk.specs.Answers.{ByAny, ByClient, ByReader, EndsReading, Leaves, Rule, absent}
 use Rattle.client_desk.specs.Drafts.{ByRun, GivesUpRun, LeavesAsked}
-use Rattle.client_desk.specs.Inside.Sitting.{CanSit, IsAt, IsLeft, IsTaken, with_sitting}
+use Rattle.client_desk.specs.Inside.Sitting.{CanSit, IsAt, IsPlaceLeft, IsTaken, with_sitting}
 use Rattle.client_desk.specs.Places.{PlaceState, client_at, free_place}
 use Rattle.client_desk.specs.Kept.{kept_at}
 use Rattle.client_desk.specs.Runs.{GaveUp, IsBegunAt}
@@ -94,7 +94,7 @@ none_there rule has means s b taken new f was put other is =
 
 -- the client left
 pub left_place : (b taken new : PlaceState) (client : ClientState) → Some client ≡ client_at b
-    → taken ≡ record b { seat = None; client = None; asking = None; reading = None } → IsLeft client taken new
+    → taken ≡ record b { seat = None; client = None; asking = None; reading = None } → IsPlaceLeft client taken new
     → ByAny Leaves b (told_alone Done) new
 left_place b taken new client is left gone =
     at_some (client_at b) fault.NoClient Leaves client b (told_alone Done) new (sym is) (record {
@@ -106,7 +106,7 @@ left_place b taken new client is left gone =
 
 -- where it had a reading open, which ended first
 pub left_reading : (reader client : ClientState) (taken new : PlaceState) → AfterQuery ⊤ reader client
-    → client.seat.mark ≡ reader.seat.mark → IsLeft client taken new → IsLeft reader taken new
+    → client.seat.mark ≡ reader.seat.mark → IsPlaceLeft client taken new → IsPlaceLeft reader taken new
 left_reading reader client taken new stays same gone = (
   gone.0,
   record {
@@ -170,7 +170,7 @@ gave_up means b taken new a client is free closed left given put =
 
 pub left_asked : (means : Meanings) (b taken new : PlaceState) (a : UnderWay) (client : ClientState)
     → Some a ≡ b.asking → taken ≡ record b { seat = None; client = None; asking = None; reading = None }
-    → GaveUp means a client → IsLeft client taken new → ByRun (LeavesAsked means) b (told_alone Done) new
+    → GaveUp means a client → IsPlaceLeft client taken new → ByRun (LeavesAsked means) b (told_alone Done) new
 left_asked means b taken new a client is left given gone =
     by_run (LeavesAsked means) a b new (told_alone Done) is (record {
       seat = gone.0;

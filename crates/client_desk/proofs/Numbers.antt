@@ -8,7 +8,7 @@ use Rattle.logbook.specs.Pages.{Book}
 use Rattle.rebase.specs.Watching.{Watched}
 use Rattle.client_desk.specs.declared.calls.Keep.{Keep}
 use Rattle.client_desk.specs.declared.calls.Keep.TheVariants.{At, AtNext}
-use Rattle.client_desk.specs.Inside.Keeping.{AreOf}
+use Rattle.client_desk.specs.Inside.Keeping.{AreFor}
 use Rattle.client_desk.specs.Kept.{IsKeptAt, kept_at, room_for, given_up_at}
 
 -- what is written at a number that is there
@@ -28,27 +28,27 @@ one_more (x ∷ xs) (suc k) = one_more xs k
 
 -- what is kept is of one book
 
-without_of : (book : Book) (ws : List (Option Watched)) (n : ℕ) → AreOf book ws → AreOf book (given_up_at ws n)
+without_of : (book : Book) (ws : List (Option Watched)) (n : ℕ) → AreFor book ws → AreFor book (given_up_at ws n)
 without_of book [] n all k = tt
 without_of book (w ∷ ws) zero all zero = tt
 without_of book (w ∷ ws) zero all (suc k) = all (suc k)
 without_of book (w ∷ ws) (suc n) all zero = all 0
 without_of book (w ∷ ws) (suc n) all (suc k) = without_of book ws n (λ i. all (suc i)) k
 
-pub room_of : (book : Book) (keep : Keep) (ws : List (Option Watched)) → AreOf book ws → AreOf book (room_for keep ws)
+pub room_of : (book : Book) (keep : Keep) (ws : List (Option Watched)) → AreFor book ws → AreFor book (room_for keep ws)
 room_of book (At n) ws all = without_of book ws n all
 room_of book AtNext ws all = all
 
-pub set_of : (book : Book) (ws : List (Option Watched)) (n : ℕ) (w : Watched) → w.book ≡ book → AreOf book ws
-    → AreOf book (slice_set ws n (Some w))
+pub set_of : (book : Book) (ws : List (Option Watched)) (n : ℕ) (w : Watched) → w.book ≡ book → AreFor book ws
+    → AreFor book (slice_set ws n (Some w))
 set_of book [] n w is all k = tt
 set_of book (x ∷ ws) zero w is all zero = is
 set_of book (x ∷ ws) zero w is all (suc k) = all (suc k)
 set_of book (x ∷ ws) (suc n) w is all zero = all 0
 set_of book (x ∷ ws) (suc n) w is all (suc k) = set_of book ws n w is (λ i. all (suc i)) k
 
-pub kept_of : (book : Book) (n : ℕ) (w : Watched) (old new : List (Option Watched)) → w.book ≡ book → AreOf book old
-    → IsKeptAt n w old new → AreOf book new
+pub kept_of : (book : Book) (n : ℕ) (w : Watched) (old new : List (Option Watched)) → w.book ≡ book → AreFor book old
+    → IsKeptAt n w old new → AreFor book new
 kept_of book n w old new is all kept k = elim (eqb_tells k n) [
   | inl same ↦ subst (λ o. IfSome o (λ (x : Watched). x.book ≡ book)) (sym (ap (kept_at new) same.1 ∙ kept.there)) is
   | inr other ↦ subst (λ o. IfSome o (λ (x : Watched). x.book ≡ book)) (sym (kept.others k other.1)) (all k)

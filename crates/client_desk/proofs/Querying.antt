@@ -21,7 +21,7 @@ use Rattle.client_desk.specs.declared.faults.CallFault.{CallFault}
 use Rattle.client_desk.specs.declared.outcomes.Outcome.TheVariants.{Faulty}
 use Rattle.client_desk.specs.Answers.{AnswersReading, AnswersQuery, ReadsBy, ReadsKept, absent}
 use Rattle.client_desk.specs.Answers.{moment_by, read_by_client, tries}
-use Rattle.client_desk.specs.Inside.Reading.{ToldBy, ToldKept, is_query, query_told}
+use Rattle.client_desk.specs.Inside.Reading.{ToldBy, ToldKept, is_of_one_commit, reading_told}
 use Rattle.client_desk.specs.Places.{PlaceState, with_client, with_moment}
 use Rattle.client_desk.specs.Told.{Told, cookie_told, is_told, pending_told, rows_told, tells, told, value_told}
 use Rattle.client_desk.proofs.Telling.{asked_client, asked_nobody, asked_reader, refused_as}
@@ -99,7 +99,7 @@ reader_read tell right reader n m t h = by h.reply h.answer h.refused h.told h.m
 module _ (means : Meanings) (b : PlaceState) (t : Told) (a : PlaceState) (IsTold : (State → Told) → Type 0)
     (ask : (X : Type 0) (tell : X → Told) (right : State → X) → IsTold (λ s. tell (right s))
     → AnswersQuery tell (λ c s. right s) means b t a) where
-  each_query : (call : DeskCall) → is_query call ≡ true → IsTold (λ s. query_told (version_of means s) call)
+  each_query : (call : DeskCall) → is_of_one_commit call ≡ true → IsTold (λ s. reading_told (version_of means s) call)
       → AnswersReading means call b t a
   each_query (kind.Get key) q h = ask (Option Bytes) value_told (λ s. get_at means s key.now) h
   each_query (kind.Has key) q h = ask Bool is_told (λ s. has_at means s key.now) h
@@ -139,8 +139,8 @@ module _ (means : Meanings) (b : PlaceState) (t : Told) (a : PlaceState) (IsTold
   each_query kind.GiveUp q h = absurd (cc q)
 
 pub told_client : (means : Meanings) (v b : PlaceState) (client next : ClientState) (m : ℕ) (t : Told) (call : DeskCall)
-    → v ≡ b → v.client ≡ Some client → v.reading ≡ None → is_query call ≡ true
-    → ToldBy means client next v.moment m t (λ s. query_told (version_of means s) call)
+    → v ≡ b → v.client ≡ Some client → v.reading ≡ None → is_of_one_commit call ≡ true
+    → ToldBy means client next v.moment m t (λ s. reading_told (version_of means s) call)
     → AnswersReading means call b t (with_moment m (with_client next v))
 told_client means v b client next m t call same is none query h =
     each_query means b t (with_moment m (with_client next v)) (ToldBy means client next v.moment m t) ask call query h
@@ -154,8 +154,8 @@ told_client means v b client next m t call same is none query h =
 
 pub told_reader : (means : Meanings) (v b : PlaceState) (reader : ClientState) (m : ℕ) (t : Told) (call : DeskCall)
     → v ≡ b
-    → v.reading ≡ Some reader → is_query call ≡ true
-    → ToldKept reader v.moment m t (λ s. query_told (version_of means s) call)
+    → v.reading ≡ Some reader → is_of_one_commit call ≡ true
+    → ToldKept reader v.moment m t (λ s. reading_told (version_of means s) call)
     → AnswersReading means call b t (with_moment m v)
 told_reader means v b reader m t call same is query h =
     each_query means b t (with_moment m v) (ToldKept reader v.moment m t) ask call query h
@@ -167,7 +167,7 @@ told_reader means v b reader m t call same is query h =
         asked_reader tell (λ c s. right s) means v b reader m t same is kept.0 kept.1
 
 pub told_nobody : (means : Meanings) (v b : PlaceState) (f : CallFault) (bytes : Bytes) (call : DeskCall) → v ≡ b
-    → v.client ≡ None → v.reading ≡ None → f ≡ absent v.reading → bytes ≡ [] → is_query call ≡ true
+    → v.client ≡ None → v.reading ≡ None → f ≡ absent v.reading → bytes ≡ [] → is_of_one_commit call ≡ true
     → AnswersReading means call b (told (Faulty f) bytes) v
 told_nobody means v b f bytes call same none closed is empty query =
     each_query means b (told (Faulty f) bytes) v (λ right. ⊤) ask call query tt

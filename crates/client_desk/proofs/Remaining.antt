@@ -30,7 +30,7 @@ use Rattle.client_desk.specs.Answers.{Rule, Telling}
 use Rattle.client_desk.specs.Answers.{TellsChanges, TellsMoment, TellsMomentAs, TellsRows, Unwatches, Watches, absent}
 use Rattle.client_desk.specs.Answers.{made_room}
 use Rattle.client_desk.specs.Calls.{AnswersCalm, MayAnswerAt}
-use Rattle.client_desk.specs.Inside.Sitting.{IsCalm}
+use Rattle.client_desk.specs.Inside.Sitting.{IsAtRest}
 use Rattle.client_desk.specs.Kept.{kept_at}
 use Rattle.client_desk.specs.Places.{PlaceState}
 use Rattle.client_desk.specs.Told.{Told, bytes_told, cookie_told, is_told, pending_told, rows_told, value_told}
@@ -54,7 +54,7 @@ room_same other b = refl
 
 -- the same client, which knows no less, sits at the place, where no run is asked for and no reading is open
 abbrev pub Sits : ClientState → PlaceState → Type 0
-Sits c a = (d : ClientState) × (a.client ≡ Some d) × IsCalm a × IsSameClient c d × IsSameSeat c.seat d.seat
+Sits c a = (d : ClientState) × (a.client ≡ Some d) × IsAtRest a × IsSameClient c d × IsSameSeat c.seat d.seat
 
 same_seat : (s : SeatState) → IsSameSeat s s
 same_seat s = record {
@@ -63,7 +63,7 @@ same_seat s = record {
 }
 
 module _ (means : Meanings) (c : ClientState) (b a : PlaceState) (t : Told) (sits : b.client ≡ Some c)
-    (calm : IsCalm b) where
+    (calm : IsAtRest b) where
   moved_on : (d : ClientState) → who a ≡ (Some d, b.asking, b.reading) → IsSameClient c d → IsSameSeat c.seat d.seat
       → Sits c a
   moved_on d is client seat =

@@ -11,7 +11,7 @@ use Rattle.rebase.specs.Watching.{Watched}
 use Rattle.client_desk.specs.declared.calls.Keep.{Keep}
 use Rattle.client_desk.specs.declared.faults.CallFault.TheVariants as fault
 use Rattle.client_desk.specs.Answers.{At, ByClient, AnswersLack, PollsAs, Rule, Telling, Watches, absent}
-use Rattle.client_desk.specs.Inside.Keeping.{AreOf, IsPolled, KeepsWatch}
+use Rattle.client_desk.specs.Inside.Keeping.{AreFor, IsPolled, KeepsWatch}
 use Rattle.client_desk.specs.Kept.{kept_at, room_for}
 use Rattle.client_desk.specs.Places.{PlaceState, with_client, with_watches}
 use Rattle.client_desk.specs.Told.{Told, dry}
@@ -22,12 +22,12 @@ use Rattle.client_desk.proofs.Telling.{at_some}
 pub kept_watch : (group : Grouped) (sits : Option ClientState) (client : ClientState) (keep : Keep) (watch : Watched)
     (t : Told) (old new : List (Option Watched)) → sits ≡ Some client
     → IfSome sits (λ c. (c.group ≡ group) × IsSeatOf group.group c.seat) → watch.book ≡ client.seat.mark.book
-    → AreOf group.group.book old → KeepsWatch keep watch t old new → AreOf group.group.book new
+    → AreFor group.group.book old → KeepsWatch keep watch t old new → AreFor group.group.book new
 kept_watch group sits client keep watch t old new is sat book all (inl (n, told, kept)) =
     let home = subst (λ s. IfSome s (λ c. (c.group ≡ group) × IsSeatOf group.group c.seat)) is sat in
     kept_of group.group.book n watch old new (book ∙ home.1.0) all kept.there
 kept_watch group sits client keep watch t old new is sat book all (inr (told, same)) =
-    subst (AreOf group.group.book) (sym same) all
+    subst (AreFor group.group.book) (sym same) all
 
 -- a watch that has answered nothing yet
 abbrev pub new_watch : ClientState → Scan → Watched

@@ -9,7 +9,7 @@ ghost use Rattle.client_desk.specs.Drafts.{ReadsMap, WritesAll, WritesMap};
 ghost use Rattle.client_desk.specs.declared.outcomes.Outcome.TheVariants.{Done, Number};
 ghost use Rattle.client_desk.specs.Told.{bytes_told, is_told, named_told, reason_number, replied_told, rows_told};
 ghost use Rattle.client_desk.specs.Told.{run_told, tells, told, told_alone, value_told};
-ghost use Rattle.client_desk.specs.Inside.Drafting.{MayTell};
+ghost use Rattle.client_desk.specs.Inside.Drafting.{IsThisOrDry};
 
 use crate::outcomes::Outcome;
 use crate::printing::print_rows;
@@ -26,7 +26,7 @@ pub(crate) fn tell_name<M: Means + Sync>(
     bytes: &mut Vec<u8>,
 ) -> Outcome
     requires { bytes.old.items ≡ [] }
-    ensures { MayTell (named_told asking.now.mutation) (told result bytes.new.items) }
+    ensures { IsThisOrDry (named_told asking.now.mutation) (told result bytes.new.items) }
 {
     let mutation = asking.mutation();
     if bytes
@@ -46,7 +46,7 @@ pub(crate) fn tell_run<M: Means + Sync>(
     bytes: &mut Vec<u8>,
 ) -> Outcome
     requires { bytes.old.items ≡ [] }
-    ensures { MayTell (run_told asking.now.mutation) (told result bytes.new.items) }
+    ensures { IsThisOrDry (run_told asking.now.mutation) (told result bytes.new.items) }
 {
     let mutation = asking.mutation();
     match mutation_bytes(alloc, mutation) {
@@ -74,7 +74,7 @@ pub(crate) fn tell_args<M: Means + Sync>(
     bytes: &mut Vec<u8>,
 ) -> Outcome
     requires { bytes.old.items ≡ [] }
-    ensures { MayTell (bytes_told asking.now.mutation.args) (told result bytes.new.items) }
+    ensures { IsThisOrDry (bytes_told asking.now.mutation.args) (told result bytes.new.items) }
 {
     let mutation = asking.mutation();
     wrote(

@@ -2,7 +2,7 @@
 ghost use Rattle.std.specs.Prelude.{ℕ, ◌≡◌, ◌<◌, IfOk, None, OnErr, OnOk, length};
 ghost use Rattle.std.specs.Option.{option_copied};
 ghost use Rattle.client_desk.specs.Kept.{IsFirstFree, IsNumberFor, kept_at, room_for};
-ghost use Rattle.client_desk.specs.Inside.Keeping.{GivesUp, KeepsAt};
+ghost use Rattle.client_desk.specs.Inside.Keeping.{GivesUpKept, KeepsAt};
 
 use crate::calls::Keep;
 use std::alloc::AllocError;
@@ -19,7 +19,7 @@ pub(crate) fn kept_at<T>(all: &[Option<T>], number: usize) -> Option<&T>
 
 /// Gives up what is kept under a number. It says whether something was.
 pub(crate) fn give_up<T: Drop>(all: &mut Vec<Option<T>>, number: usize) -> bool
-    ensures { GivesUp result number all.old.items all.new.items }
+    ensures { GivesUpKept result number all.old.items all.new.items }
 {
     if kept_at(all, number).is_none() {
         return false;

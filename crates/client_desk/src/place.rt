@@ -10,7 +10,7 @@ ghost use Rattle.client_desk.specs.Answers.{Leaves, PollsAs, Refreshes, AnswersS
 ghost use Rattle.client_desk.specs.Calls.{MayLack};
 ghost use Rattle.client_desk.specs.Closing.{Closes};
 ghost use Rattle.client_desk.specs.Inside.Keeping.{telling_of};
-ghost use Rattle.client_desk.specs.Inside.Sitting.{CanSit, IsAt, IsLeft, IsTaken, IsTakenFrom, with_sitting};
+ghost use Rattle.client_desk.specs.Inside.Sitting.{CanSit, IsAt, IsPlaceLeft, IsTaken, IsTakenFrom, with_sitting};
 ghost use Rattle.client_desk.specs.Kept.{kept_at};
 ghost use Rattle.client_desk.specs.Places.{free_place};
 ghost use Rattle.client_desk.specs.Told.{told, told_alone};
@@ -52,9 +52,9 @@ impl<M: Hosted> Model for Place<M> {
     ghost use Rattle.group_history.specs.contracts.changes.Change as the_change;
     ghost use Rattle.group_history.specs.contracts.mutations.Mutation as the_mutation;
     ghost use Rattle.head_word.specs.contracts.entry.Entry as entry;
-    ghost use Rattle.change_tries.specs.Rooting.{entries_coded};
+    ghost use Rattle.group_history.specs.State.{entries_coded};
     ghost use Rattle.commit_graph.specs.Seats.{IsSeatOf};
-    ghost use Rattle.client_desk.specs.Inside.Keeping.{AreOf};
+    ghost use Rattle.client_desk.specs.Inside.Keeping.{AreFor};
     ghost use Rattle.client_desk.specs.Places.{PlaceState};
     ghost use Rattle.client_desk.specs.Runs.{IsAsking};
     ghost use Rattle.client_desk.specs.Sitting.{asking_of, client_of, reading_of, seat_of};
@@ -86,7 +86,7 @@ impl<M: Hosted> Model for Place<M> {
         × IfSome (asking_of p.sitting) (IsAsking M.had M.means (arc_value p.group))
         × IfSome (reading_of p.sitting) (λ c. (c.group ≡ arc_value p.group)
         × IsSeatOf (arc_value p.group).group c.seat)
-        × AreOf (arc_value p.group).group.book p.watches.items };
+        × AreFor (arc_value p.group).group.book p.watches.items };
 }
 
 impl<M: Hosted> Place<M> {
@@ -177,7 +177,7 @@ impl<M: Hosted + Sync> Place<M> {
     pub(crate) fn free(&mut self, client: Client<M, Arena<M>>)
         requires taken { IsTakenFrom self.old }
         requires at { IsAt self.old.group client }
-        ensures { IsLeft client self.old self.new }
+        ensures { IsPlaceLeft client self.old self.new }
     {
         self.put(Sitting::Nobody(client.close()));
         self.tickets.clear();

@@ -3,7 +3,7 @@ ghost use Rattle.std.specs.Prelude.{◌≡◌, ◌⊎◌, [], drop, true};
 ghost use Rattle.push_body.specs.Bodies.{push_text};
 ghost use Rattle.client_desk.specs.Answers.{AnswersReading, AnswersQuery, AnswersLack, TellsMomentAs, made_room};
 ghost use Rattle.client_desk.specs.Calls.{MayLack};
-ghost use Rattle.client_desk.specs.Inside.Reading.{is_query};
+ghost use Rattle.client_desk.specs.Inside.Reading.{is_of_one_commit};
 ghost use Rattle.client_desk.specs.Told.{bytes_told, told, told_alone};
 
 use crate::calls::DeskCall;
@@ -17,7 +17,7 @@ use crate::sitting::Sitting;
 impl<M: Hosted + Sync> Place<M> {
     // Makes a query that one commit answers.
     fn ask(&mut self, call: DeskCall<'_>, bytes: &mut Vec<u8>) -> Outcome
-        requires query { is_query call ≡ true }
+        requires query { is_of_one_commit call ≡ true }
         requires empty { bytes.old.items ≡ [] }
         ensures { AnswersReading M.means call.entry self.old (told result bytes.new.items) self.new }
     {

@@ -13,8 +13,8 @@ ghost use Rattle.rebase.specs.Readers.{lent, read_by, seen_by};
 ghost use Rattle.client_desk.specs.Answers.{CountsBy, moment_by, read_by_client as known_by};
 ghost use Rattle.client_desk.specs.Told.{cookie_told, dry, pending_told, rows_told, tells, told};
 ghost use Rattle.client_desk.specs.Told.{value_told};
-ghost use Rattle.client_desk.specs.Inside.Reading.{PushedBy, PushedKept, ToldBy, ToldKept, is_pulled, is_query};
-ghost use Rattle.client_desk.specs.Inside.Reading.{query_told};
+ghost use Rattle.client_desk.specs.Inside.Reading.{PushedBy, PushedKept, ToldBy, ToldKept, is_pulled, is_of_one_commit};
+ghost use Rattle.client_desk.specs.Inside.Reading.{reading_told};
 ghost use Rattle.client_desk.specs.declared.outcomes.Outcome.TheVariants.{Done};
 
 use crate::calls::DeskCall;
@@ -111,7 +111,7 @@ fn tell_pulled<'a, M: Means + Sync>(
 ) -> Result<Outcome, Refusal>
     requires query { is_pulled call ≡ true }
     requires empty { bytes.old.items ≡ [] }
-    ensures told { IfOk result (λ outcome. told outcome bytes.new.items ≡ query_told tx.entry.version call.entry) }
+    ensures told { IfOk result (λ outcome. told outcome bytes.new.items ≡ reading_told tx.entry.version call.entry) }
     ensures refused { IfErr result (IsStoreOrMemory ⊤) }
 {
     let mut pulled = tx.pulled()?;
@@ -133,9 +133,9 @@ fn tell_query<'a, M: Means + Sync>(
     call: DeskCall<'_>,
     bytes: &mut Vec<u8>,
 ) -> Result<Outcome, Refusal>
-    requires query { is_query call ≡ true }
+    requires query { is_of_one_commit call ≡ true }
     requires empty { bytes.old.items ≡ [] }
-    ensures told { IfOk result (λ outcome. told outcome bytes.new.items ≡ query_told tx.entry.version call.entry) }
+    ensures told { IfOk result (λ outcome. told outcome bytes.new.items ≡ reading_told tx.entry.version call.entry) }
     ensures refused { IfErr result (IsStoreOrMemory ⊤) }
 {
     let mut tx = tx;
@@ -174,10 +174,10 @@ fn ask_reader<M: Means + Sync>(
     call: DeskCall<'_>,
     bytes: &mut Vec<u8>,
 ) -> Result<Outcome, Refusal>
-    requires query { is_query call ≡ true }
+    requires query { is_of_one_commit call ≡ true }
     requires empty { bytes.old.items ≡ [] }
     ensures told { IfOk result (λ outcome. told outcome bytes.new.items
-        ≡ query_told (version_of M.means (read_by tx.now)) call.entry) }
+        ≡ reading_told (version_of M.means (read_by tx.now)) call.entry) }
     ensures refused { IfErr result (IsStoreOrMemory ⊤) }
 {
     tell_query(alloc, tx.commit()?, call, bytes)
@@ -191,15 +191,15 @@ fn ask_client<M: Means + Sync>(
     moment: &mut u64,
     bytes: &mut Vec<u8>,
 ) -> Result<Outcome, Refusal>
-    requires query { is_query call ≡ true }
+    requires query { is_of_one_commit call ≡ true }
     requires empty { bytes.old.items ≡ [] }
     ensures answer { IsLinearized M.means TRIES client.old.seat.mark client.new.seat.mark
         (map_ok (λ outcome. told outcome bytes.new.items) result) no_change
-        (λ s. Ok (query_told (version_of M.means s) call.entry)) }
+        (λ s. Ok (reading_told (version_of M.means s) call.entry)) }
     ensures point { IfOk result (λ _. IsPoint M.means client.old.seat.mark client.new.seat.mark None
         client.new.seat.mark.log) }
     ensures now { IfOk result (λ outcome. told outcome bytes.new.items
-        ≡ query_told (version_of M.means (after (record_of client.new.seat.mark.log))) call.entry) }
+        ≡ reading_told (version_of M.means (after (record_of client.new.seat.mark.log))) call.entry) }
     ensures refused { IfErr result (IsStoreOrMemory ⊤) }
     ensures moment { moment.new ≡ moment_by result client.new moment.old }
     ensures stays { AfterQuery ⊤ client.old client.new }
@@ -235,10 +235,10 @@ pub(crate) fn tell_by_client<M: Means + Sync>(
     moment: &mut u64,
     bytes: &mut Vec<u8>,
 ) -> Outcome
-    requires query { is_query call ≡ true }
+    requires query { is_of_one_commit call ≡ true }
     requires empty { bytes.old.items ≡ [] }
     ensures { ToldBy M.means client.old client.new moment.old moment.new (told result bytes.new.items)
-        (λ s. query_told (version_of M.means s) call.entry) }
+        (λ s. reading_told (version_of M.means s) call.entry) }
 {
     let reply = ask_client(alloc, client, call, moment, bytes);
     read_outcome(reply, bytes)
@@ -252,10 +252,10 @@ fn ask_reading<M: Means + Sync>(
     moment: &mut u64,
     bytes: &mut Vec<u8>,
 ) -> Result<Outcome, Refusal>
-    requires query { is_query call ≡ true }
+    requires query { is_of_one_commit call ≡ true }
     requires empty { bytes.old.items ≡ [] }
     ensures told { IfOk result (λ outcome. told outcome bytes.new.items
-        ≡ query_told (version_of M.means (known_by reader.now)) call.entry) }
+        ≡ reading_told (version_of M.means (known_by reader.now)) call.entry) }
     ensures refused { IfErr result (IsStoreOrMemory ⊤) }
     ensures moment { moment.new ≡ moment_by result reader.now moment.old }
 {
@@ -274,10 +274,10 @@ pub(crate) fn tell_by_reading<M: Means + Sync>(
     moment: &mut u64,
     bytes: &mut Vec<u8>,
 ) -> Outcome
-    requires query { is_query call ≡ true }
+    requires query { is_of_one_commit call ≡ true }
     requires empty { bytes.old.items ≡ [] }
     ensures { ToldKept reader.now moment.old moment.new (told result bytes.new.items)
-        (λ s. query_told (version_of M.means s) call.entry) }
+        (λ s. reading_told (version_of M.means s) call.entry) }
 {
     let reply = ask_reading(alloc, reader, call, moment, bytes);
     read_outcome(reply, bytes)

@@ -1,7 +1,8 @@
 -- What the looks along a chain tell of a commit's state.
 use Rattle.std.proofs.Common.{◌≡◌, ℕ, suc, ◌<◌, List, [], ◌++◌, reverse, Some, None, Option, slice_get, refl, ap, sym}
-use Rattle.std.proofs.Common.{subst, ◌∙◌, arith, append_assoc, false}
+use Rattle.std.proofs.Common.{subst, ◌∙◌, arith, append_assoc, true, false, cond, nat_lt}
 use Rattle.std.specs.Prelude.{IsSome}
+use Rattle.std.proofs.lemmas.Bool.{ltb-false, ltb-true}
 use Rattle.std.proofs.lemmas.List.{append-nil}
 use mathlib.Core.List.{IsPrefix, reverse-append}
 use Rattle.group_history.specs.declared.nodes.Commit.{Commit}
@@ -17,18 +18,20 @@ use Rattle.group_history.specs.Map.{Bytes}
 use Rattle.group_history.specs.Refs.{stamp_of}
 use Rattle.group_history.specs.Naming.{renamed_kind, commit_content}
 use Rattle.group_history.specs.Ids.{AreConsecutive, IdsFollow}
-use Rattle.group_history.specs.State.{State, confirmed_id, ids_of, last_id}
+use Rattle.group_history.specs.State.{State, Ids, confirmed_id, ids_of, last_id}
 use Rattle.group_history.specs.Spelling.{Contents, Version, version_at, snapshot_at, snapshot_of, stepped, map_at}
+use Rattle.group_history.specs.Spelling.{tells_right}
 use Rattle.group_history.specs.Cookies.{Cookie}
 use Rattle.group_history.proofs.Lists.{get_more, prefix_trans}
+use Rattle.group_history.proofs.Telling.{last_ids-last, told_right}
 use Rattle.commit_graph.specs.declared.chains.Base.{Base}
 use Rattle.commit_graph.specs.declared.chains.Link.{Link}
 use Rattle.commit_graph.specs.LastIds.{last_in, last_at}
 use Rattle.commit_graph.specs.Chains.{IsBaseOf}
-use Rattle.commit_graph.specs.Inside.Chains.{LiesAt, basis_of, basis_named, added_by, listed, link_of, link_named}
-use Rattle.commit_graph.specs.Inside.Chains.{top_of, snapshot_named, closes_group, closes, id_in, own_id, id_named}
+use Rattle.commit_graph.specs.Inside.Chains.{LiesAt, added_by, listed, link_of, link_named}
+use Rattle.commit_graph.specs.Inside.Chains.{top_of, snapshot_named, closes_group, closes, id_alone, own_id, id_named}
 use Rattle.commit_graph.specs.Inside.Chains.{IsSnapshot, IsSnapshotAt, HasCookie, cookie_in, HasBase, base_in}
-use Rattle.commit_graph.specs.Inside.Chains.{snapshot_content, IsBase}
+use Rattle.commit_graph.specs.Inside.Chains.{snapshot_content, IsBasis, own_or_told, next_of, next_told, said_named}
 use Rattle.commit_graph.proofs.Spelled.{IsMade, commit-made, content-at, spelled_version, version-grown, map-grown}
 use Rattle.commit_graph.proofs.LastIds.{newest_id}
 
@@ -214,10 +217,32 @@ pub search_begins : (ns : Contents) (at : Ref) (client : Bytes) (v : Version) �
     → IdsFollow v.state.confirmed v.state.pending → IsSearch ns client (last_id v.state client) (Some at)
 search_begins ns at client v h ids = (v, h, ids.pending_ids client, refl)
 
+-- a commit over a basis, by the id of its own mutation
+told_over : (ns : Contents) (client : Bytes) (own last : ℕ) (basis : Ref) (at : ℕ) (told : Option Ids) (b : Version)
+    → stamp_of basis < at → version_at ns (stamp_of basis) ≡ Some b → tells_right told b.state ≡ true
+    → (0 < own → own ≡ last)
+    → (own ≡ 0 → AreConsecutive (confirmed_id b.state.confirmed client) (ids_of client b.state.pending)
+    × (last_id b.state client ≡ last))
+    → (ahead (next_told basis told) < suc at) × (0 < own_or_told client own told → own_or_told client own told ≡ last)
+    × (own_or_told client own told ≡ 0 → IsSearch ns client last (next_told basis told))
+told_over ns client own last basis at None b low here right newer older =
+    (omega (arith, low), newer, λ h. let u = older h in (b, here, u.0, u.1))
+told_over ns client own last basis at (Some ids) b low here right newer older =
+    let is : own_or_told client own (Some ids) ≡ last = elim (nat_lt 0 own) as (λ t. nat_lt 0 own ≡ t
+    → cond t own (confirmed_id ids client) ≡ last) [
+      | true ↦ λ e. newer (ltb-true 0 own e)
+      | false ↦ λ e.
+          let none = ltb-false 0 own e in
+          let u = older (omega (arith, none)) in
+          ap (λ (i : Ids). confirmed_id i client) (told_right b.state (Some ids) ids right refl)
+          ∙ last_ids-last b.state client u.0 ∙ u.1
+    ] refl in
+    (omega arith, λ h. is, λ h. sym h ∙ is)
+
 search_over : (ns more : Contents) (client : Bytes) (last : ℕ) (at : Ref) (root : Ref) (kind : CommitKind Ref)
     → IsSearch ns client last (Some at) → IsPrefix ns more → LiesSo more (stamp_of at) root kind
-    → (ahead (basis_named kind) < suc (stamp_of at)) × (0 < id_named client kind → id_named client kind ≡ last)
-    × (id_named client kind ≡ 0 → IsSearch more client last (basis_named kind))
+    → (ahead (said_named kind).next < suc (stamp_of at)) × (0 < id_named client kind → id_named client kind ≡ last)
+    × (id_named client kind ≡ 0 → IsSearch more client last (said_named kind).next)
 search_over ns more client last at root (Snapshot s) d pre lies =
     let m = commit-made more (stamp_of at) _ d.0 lies (version-grown ns more (stamp_of at) d.0 pre d.1) in
     let is : confirmed_id s.confirmed client ≡ last = ap (λ (w : State). last_id w client) (sym m.3) ∙ d.3 in
@@ -230,12 +255,13 @@ search_over ns more client last at root (Over o) d pre lies =
     subst (λ (w : State). AreConsecutive (confirmed_id w.confirmed client) (ids_of client w.pending)) b.5 d.2 in
     let is : last_id (stepped b.0.state o.step) client ≡ last = ap (λ (w : State). last_id w client) (sym b.5) ∙ d.3 in
     let t = by_step b.0.state o.step ids in
-    (omega (arith, b.1), λ h. sym (t.0 h) ∙ is, λ h. let u = t.1 h in (b.0, b.2, u.0, sym u.1 ∙ is))
+    told_over more client (id_alone client o.step) last o.basis (stamp_of at) o.told b.0 b.1 b.2 b.6
+    (λ h. sym (t.0 h) ∙ is) (λ h. let u = t.1 h in (u.0, sym u.1 ∙ is))
   where
     by_step : (s : State) (step : CommitChange) → AreConsecutive (confirmed_id (stepped s step).confirmed client)
         (ids_of client (stepped s step).pending)
-        → (0 < id_in client step → last_id (stepped s step) client ≡ id_in client step)
-        × (id_in client step ≡ 0 → AreConsecutive (confirmed_id s.confirmed client) (ids_of client s.pending)
+        → (0 < id_alone client step → last_id (stepped s step) client ≡ id_alone client step)
+        × (id_alone client step ≡ 0 → AreConsecutive (confirmed_id s.confirmed client) (ids_of client s.pending)
         × (last_id (stepped s step) client ≡ last_id s client))
     by_step s (Local x) ids = newest_id s x client ids
     by_step s Closed ids = (λ h. absurd (omega (arith, h)), λ h. (ids, refl))
@@ -243,8 +269,8 @@ search_over ns more client last at root (Over o) d pre lies =
 -- A commit that knows an id of the client has its last one; below one that knows none the search goes on.
 pub search_step : (ns more : Contents) (client : Bytes) (last : ℕ) (at : Ref) (c : Commit Ref)
     → IsSearch ns client last (Some at) → IsPrefix ns more → LiesAt more (stamp_of at) c
-    → (ahead (basis_of c) < suc (stamp_of at)) × (0 < own_id client c → own_id client c ≡ last)
-    × (own_id client c ≡ 0 → IsSearch more client last (basis_of c))
+    → (ahead (next_of c) < suc (stamp_of at)) × (0 < own_id client c → own_id client c ≡ last)
+    × (own_id client c ≡ 0 → IsSearch more client last (next_of c))
 search_step ns more client last at c d pre lies = search_over ns more client last at c.root c.kind d pre lies
 
 last_in-some : (client : Bytes) (o : Option Version) (id : ℕ) → last_in client o ≡ Some id
@@ -265,7 +291,7 @@ search_ends first ns client last at k id d pre same was =
 
 -- A SNAPSHOT THAT IS SHOWN AGAIN HAS WHAT ITS STATE HAS FROM THE SERVER
 
-same_content : (ns more : Contents) (k : ℕ) (root : Ref) (s : Snapped) (t : State) (b : IsBase ns k t)
+same_content : (ns more : Contents) (k : ℕ) (root : Ref) (s : Snapped) (t : State) (b : IsBasis ns k t)
     → IsPrefix ns more → LiesSo more k root (Snapshot s) → (b.root ≡ stamp_of root) × (b.content ≡ s)
 same_content ns more k root s t b pre lies =
     let e : Some (node.Commit (snapshot_content b.root b.content))
@@ -276,17 +302,17 @@ same_content ns more k root s t b pre lies =
     (ap (λ (w : Commit ℕ). w.root) f, cc k)
 
 has_cookie : (ns more : Contents) (k : ℕ) (root : Ref) (kind : CommitKind Ref) (t : State) (cookie : Cookie)
-    → IsBase ns k t
+    → IsBasis ns k t
     → IsPrefix ns more → LiesSo more k root kind → cookie_in kind cookie → cookie ≡ t.cookie
 has_cookie ns more k root (Over o) t cookie b pre lies has = absurd has
 has_cookie ns more k root (Snapshot s) t cookie b pre lies has =
     has ∙ (sym (ap (λ (w : Snapped). w.cookie) (same_content ns more k root s t b pre lies).1) ∙ b.cookie)
 
-pub base_cookie : (ns more : Contents) (k : ℕ) (c : Commit Ref) (s : State) (cookie : Cookie) → IsBase ns k s
+pub base_cookie : (ns more : Contents) (k : ℕ) (c : Commit Ref) (s : State) (cookie : Cookie) → IsBasis ns k s
     → IsPrefix ns more → LiesAt more k c → HasCookie c cookie → cookie ≡ s.cookie
 base_cookie ns more k c s cookie b pre lies has = has_cookie ns more k c.root c.kind s cookie b pre lies has
 
-has_base : (ns more : Contents) (k : ℕ) (root : Ref) (kind : CommitKind Ref) (t : State) (base : Base) → IsBase ns k t
+has_base : (ns more : Contents) (k : ℕ) (root : Ref) (kind : CommitKind Ref) (t : State) (base : Base) → IsBasis ns k t
     → IsPrefix ns more → LiesSo more k root kind → base_in root kind base → IsBaseOf more t base
 has_base ns more k root (Over o) t base b pre lies has = absurd has
 has_base ns more k root (Snapshot s) t base b pre lies has =
@@ -297,6 +323,6 @@ has_base ns more k root (Snapshot s) t base b pre lies has =
           (ap (map_at more) (sym same.0) ∙ map-grown ns more b.root t.pulled pre b.pulled),
     )
 
-pub base_whole : (ns more : Contents) (k : ℕ) (c : Commit Ref) (s : State) (base : Base) → IsBase ns k s
+pub base_whole : (ns more : Contents) (k : ℕ) (c : Commit Ref) (s : State) (base : Base) → IsBasis ns k s
     → IsPrefix ns more → LiesAt more k c → HasBase c base → IsBaseOf more s base
 base_whole ns more k c s base b pre lies has = has_base ns more k c.root c.kind s base b pre lies has

@@ -23,7 +23,7 @@ use Rattle.group_history.proofs.Lists.{prefix_trans, no_element, first_here, lat
 use Rattle.map_chunks.specs.Places.{AreAll}
 use Rattle.map_chunks.proofs.KeptLemmas.{IfAt}
 use Rattle.commit_graph.specs.Reach.{Reaches, itself, through}
-use Rattle.commit_graph.specs.Inside.Meeting.{or_this, choose, child_for, HasKey, LiesChunk}
+use Rattle.commit_graph.specs.Inside.Meeting.{or_this, choose, child_for, HasKeyAt, LiesChunk}
 use Rattle.commit_graph.proofs.Spelled.{made_of, spelled_segment, option_map-some, sized-some, below_segment}
 use Rattle.commit_graph.proofs.Spelled.{segment-grown, chunk-at, inner-at, joined_there}
 use Rattle.std.proofs.lemmas.Bool.{eq-eqb}
@@ -105,7 +105,7 @@ by_child ns a c s key h order (Inner kids) is i below =
 
 -- a chunk has the keys of all that it reaches
 has_below : (ns : Contents) (a b : ℕ) (s : Segment) (key : Bytes) → segment_at ns a ≡ Some s → IsStrict s.rows
-    → Reaches ns a b → HasKey ns b key → Contains (keys_of s.rows) key
+    → Reaches ns a b → HasKeyAt ns b key → Contains (keys_of s.rows) key
 has_below ns _ _ s key h order (itself a) has = let e : has.0
     ≡ s = (let x : Some has.0 ≡ Some s = sym has.1 ∙ h in cc x) in
     subst (λ (w : Segment). Contains (keys_of w.rows) key) e has.2
@@ -170,12 +170,12 @@ pub record IsMeeting (first ns : Contents) (key : Bytes) (root at target : ℕ) 
   pub rows : Segment
   pub here : segment_at ns at ≡ Some rows
   pub order : IsStrict rows.rows
-  pub has : HasKey first target key
+  pub has : HasKeyAt first target key
   pub same : Reaches first root target ↔ Reaches ns at target
   pub grown : IsPrefix first ns
 
 pub meeting_begins : (first : Contents) (root target : ℕ) (key : Bytes) → IsSome (map_at first root)
-    → HasKey first target key → IsPrefix first first → IsMeeting first first key root root target
+    → HasKeyAt first target key → IsPrefix first first → IsMeeting first first key root root target
 meeting_begins first root target key h has pre = let o = map_ordered first root h in
     record { rows = o.0; here = o.1; order = o.2; has = has; same = (λ r. r, λ r. r); grown = pre }
 

@@ -8,7 +8,7 @@ use Rattle.std.specs.declared.cmp.Ordering.TheVariants.{Less, Equal, Greater}
 use Rattle.std.proofs.lemmas.List.Elements.{Contains-append_cases, Contains-append_left, Contains-append_right}
 use Rattle.std.proofs.lemmas.Map.Lookups.{exact_unsigned}
 use Rattle.commit_graph.specs.declared.founds.NamedNode.{NamedNode}
-use Rattle.commit_graph.specs.Inside.Reach.{stamp_in, AreKeyed, HasStamp, Joins, Walked, Adds}
+use Rattle.commit_graph.specs.Inside.Reach.{stamp_in, AreKeyed, HasStampIn, Joins, Walked, Adds}
 use Rattle.group_history.proofs.Lists.{only_one, cons_cases, no_element, one_here, first_here, later_here, map_to}
 
 keyed_first : (e : ℕ × NamedNode) (es : List (ℕ × NamedNode)) → AreKeyed (e ∷ es) → e.0 ≡ stamp_in e.1
@@ -109,10 +109,10 @@ adds_one a b f joins noted =
 
 pub adds_more : (a b d : Walked) (xs ys : List NamedNode) → Adds a xs b → Adds b ys d → Adds a (xs ++ ys) d
 adds_more a b d xs ys p q =
-    let on : (x : ℕ) → HasStamp b.ahead x
-    → HasStamp d.ahead x = λ x h. (let r = q.kept h.0 h.1 in (r.0, r.1, r.2 ∙ h.2)) in
-    let either : (x : ℕ) → HasStamp b.ahead x ⊎ Contains a.met x
-    → HasStamp d.ahead x ⊎ Contains a.met x = λ x h. elim h [ inl i ↦ inl (on x i) | inr j ↦ inr j ] in
+    let on : (x : ℕ) → HasStampIn b.ahead x
+    → HasStampIn d.ahead x = λ x h. (let r = q.kept h.0 h.1 in (r.0, r.1, r.2 ∙ h.2)) in
+    let either : (x : ℕ) → HasStampIn b.ahead x ⊎ Contains a.met x
+    → HasStampIn d.ahead x ⊎ Contains a.met x = λ x h. elim h [ inl i ↦ inl (on x i) | inr j ↦ inr j ] in
     record {
       from = λ g h. elim (q.from g h) [
         | inl i ↦ elim (p.from g i) [ inl j ↦ inl j | inr j ↦ inr (Contains-append_left xs ys g j) ]

@@ -11,7 +11,7 @@ use Rattle.group_history.specs.declared.refs.Ref.{Ref}
 use Rattle.group_history.specs.Refs.{stamp_of}
 use Rattle.group_history.proofs.Lists.{only_one, map_from, map_to}
 use Rattle.commit_graph.specs.Reach.{Falls, stamps_of}
-use Rattle.commit_graph.specs.Inside.Reach.{Leaves}
+use Rattle.commit_graph.specs.Inside.Reach.{Omits}
 use Rattle.commit_graph.proofs.Listing.{falls_append}
 
 pub element : (xs : List ℕ) (j : ℕ) → j < length xs → Contains xs (slice_index xs j)
@@ -42,8 +42,8 @@ absent kept place x falls past stands h =
       ]
     ]
 
-leaves_skip : (before kept left : List Ref) (y : Ref) → Leaves before kept left → Contains (stamps_of kept) (stamp_of y)
-    → Leaves (before ++ y ∷ []) kept left
+leaves_skip : (before kept left : List Ref) (y : Ref) → Omits before kept left → Contains (stamps_of kept) (stamp_of y)
+    → Omits (before ++ y ∷ []) kept left
 leaves_skip before kept left y is has x = (
   λ h. let p = (is x).0 h in (Contains-append_left before (y ∷ []) x p.0, p.1),
   λ q. elim (Contains-append_cases before (y ∷ []) x q.0) [
@@ -53,8 +53,8 @@ leaves_skip before kept left y is has x = (
   ],
 )
 
-leaves_add : (before kept left : List Ref) (y : Ref) → Leaves before kept left
-    → (Contains (stamps_of kept) (stamp_of y) → ⊥) → Leaves (before ++ y ∷ []) kept (left ++ y ∷ [])
+leaves_add : (before kept left : List Ref) (y : Ref) → Omits before kept left
+    → (Contains (stamps_of kept) (stamp_of y) → ⊥) → Omits (before ++ y ∷ []) kept (left ++ y ∷ [])
 leaves_add before kept left y is out x = (
   λ h. elim (Contains-append_cases left (y ∷ []) x h) [
     | inl p ↦ (Contains-append_left before (y ∷ []) x ((is x).0 p).0, ((is x).0 p).1)
@@ -75,7 +75,7 @@ pub record IsMerge (before kept left : List Ref) (i place : ℕ) : Type 0 where
   pub within : place ≤ length kept
   pub past : (j k : ℕ) → j < place → i ≤ k → k < length before
       → slice_index (stamps_of before) k < slice_index (stamps_of kept) j
-  pub leaves : Leaves (take i before) kept left
+  pub leaves : Omits (take i before) kept left
   pub falls : Falls (stamps_of left)
 
 same_length : (rs : List Ref) → length (stamps_of rs) ≡ length rs
@@ -88,7 +88,7 @@ stamp_at rs i d low = get_or-map stamp_of rs i d 0 low
 
 -- those of left are above what is still to come
 above_next : (before kept left : List Ref) (i : ℕ) (d : Ref) → Falls (stamps_of before)
-    → Leaves (take i before) kept left → i < length before → (z : ℕ) → Contains (stamps_of left) z
+    → Omits (take i before) kept left → i < length before → (z : ℕ) → Contains (stamps_of left) z
     → stamp_of (get_or before i d) < z
 above_next before kept left i d falls is low z h =
     let r = map_from stamp_of left z h in
@@ -131,7 +131,7 @@ module _ (before kept left : List Ref) (i from place : ℕ) (d : Ref) (falls : F
       record {
         within = within;
         past = λ j k l m n. past j k l (omega (arith, m)) n;
-        leaves = subst (λ (w : List Ref). Leaves w kept left) (sym (take_more before i d low))
+        leaves = subst (λ (w : List Ref). Omits w kept left) (sym (take_more before i d low))
             (leaves_skip (take i before) kept left (get_or before i d) is.leaves
             (subst (Contains (stamps_of kept)) same
             (element (stamps_of kept) place (omega (arith, in_kept, same_length kept)))));
@@ -152,7 +152,7 @@ module _ (before kept left : List Ref) (i from place : ℕ) (d : Ref) (falls : F
       record {
         within = within;
         past = λ j k l m n. past j k l (omega (arith, m)) n;
-        leaves = subst (λ (w : List Ref). Leaves w kept (left ++ x ∷ [])) (sym (take_more before i d low))
+        leaves = subst (λ (w : List Ref). Omits w kept (left ++ x ∷ [])) (sym (take_more before i d low))
             (leaves_add (take i before) kept left x is.leaves out);
         falls = subst Falls (sym (map-append stamp_of left (x ∷ [])))
             (falls_append (stamps_of left) (stamp_of x) is.falls (above_next before kept left i d falls is.leaves low));
@@ -165,7 +165,7 @@ take_all (x ∷ xs) zero h = absurd (omega (arith, h))
 take_all (x ∷ xs) (suc n) h = ap (λ w. x ∷ w) (take_all xs n (omega (arith, h)))
 
 -- the same by stamps
-pub leaves_stamps : (before kept left : List Ref) → Leaves before kept left → (x : ℕ)
+pub leaves_stamps : (before kept left : List Ref) → Omits before kept left → (x : ℕ)
     → Contains (stamps_of left) x ↔ (Contains (stamps_of before) x × (Contains (stamps_of kept) x → ⊥))
 leaves_stamps before kept left is x = (
   λ h. (let r = map_from stamp_of left x h in let p = (is r.0).0 r.1 in (

@@ -18,3 +18,4 @@ mod Noting
 mod Topping
 mod Rowing
 pub mod Seating
+pub mod Gathering

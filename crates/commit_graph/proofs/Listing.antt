@@ -16,7 +16,7 @@ use Rattle.map_chunks.specs.Places.{AreAll}
 use Rattle.commit_graph.specs.declared.founds.NamedNode.{NamedNode}
 use Rattle.commit_graph.specs.declared.founds.NamedNode.TheVariants as found
 use Rattle.commit_graph.specs.Reach.{Reaches, itself, through, Falls, stamps_of}
-use Rattle.commit_graph.specs.Inside.Reach.{AreFound, ref_in, stamp_in, found_in, IsSpelled, HasStamp}
+use Rattle.commit_graph.specs.Inside.Reach.{AreFound, ref_in, stamp_in, found_in, IsSpelled, HasStampIn}
 use Rattle.commit_graph.specs.Inside.Reach.{Notes, Walked, Adds}
 use Rattle.std.specs.Prelude.{IsSome}
 use Rattle.commit_graph.proofs.Descending.{map_ordered}
@@ -28,7 +28,7 @@ use Rattle.commit_graph.proofs.Reached.{found_stamps, found_refs, reaches_stays,
 
 -- listed already, or still ahead, or kept by the root
 abbrev pub Has : Contents → ℕ → List Ref → List NamedNode → ℕ → Type 0
-Has ns root out frontier x = (Contains (stamps_of out) x ⊎ HasStamp frontier x) ⊎ Reaches ns root x
+Has ns root out frontier x = (Contains (stamps_of out) x ⊎ HasStampIn frontier x) ⊎ Reaches ns root x
 
 -- While a head's reach is listed, but for what a root keeps: out is listed, and the frontier is still to be looked at.
 -- Together with the root they have the children of all in out.
@@ -113,7 +113,7 @@ listing_begins may first head root v start walk s o none only adds pre here =
       | inl p ↦ absurd (no_element f (subst (λ (w : List NamedNode). Contains w f) none p))
       | inr q ↦ only_one (found.Commit head) f q
     ] in
-    let either : (x : ℕ) → HasStamp walk.ahead x ⊎ Contains start.met x
+    let either : (x : ℕ) → HasStampIn walk.ahead x ⊎ Contains start.met x
     → Has first root [] walk.ahead x = λ x h. elim h [
       | inl p ↦ inl (inr p)
       | inr q ↦ inr (subst (λ (w : ℕ). Reaches first root w) (sym (only x q)) (itself root))
@@ -175,7 +175,7 @@ listing_step was may first ns head root at n out keys rest news is cut same low 
         ]
       ])
     ] in
-    let either : (x : ℕ) → HasStamp news.ahead x ⊎ Contains rest.met x
+    let either : (x : ℕ) → HasStampIn news.ahead x ⊎ Contains rest.met x
     → Has ns root (out ++ ref_in at ∷ []) news.ahead x = λ x h. elim h [
       | inl p ↦ inl (inr p)
       | inr q ↦ moved x (is.met x (subst (λ (w : List ℕ). Contains w x) same q))
@@ -206,7 +206,7 @@ listing_step was may first ns head root at n out keys rest news is cut same low 
           subst (λ (w : Ref). slice_get ns (stamp_of w) ≡ Some (content_of n)) (only_one (ref_in at) r q) lies,
           λ c i. (let f = map_from stamp_in (found_in n) c
               (subst (λ (w : List ℕ). Contains w c) (sym (found_stamps n)) i) in
-              either c (subst (λ (w : ℕ). HasStamp news.ahead w ⊎ Contains rest.met w) f.2 (adds.added f.0 f.1))),
+              either c (subst (λ (w : ℕ). HasStampIn news.ahead w ⊎ Contains rest.met w) f.2 (adds.added f.0 f.1))),
         )
       ];
       places = λ r h. elim (Contains-append_cases out (ref_in at ∷ []) r h) [

@@ -23,9 +23,10 @@ use Rattle.map_chunks.proofs.KeptLemmas.{IfAt}
 use Rattle.commit_graph.specs.declared.chains.Base.{Base}
 use Rattle.commit_graph.specs.declared.chains.Link.{Link}
 use Rattle.commit_graph.specs.Inside.Chains.{LiesAt, IsShownAt, HasBase, base_in, top_of, snapshot_named, basis_named}
-use Rattle.commit_graph.specs.Inside.Chains.{basis_of, link_named, link_of}
+use Rattle.commit_graph.specs.Inside.Chains.{basis_of, link_named, link_of, next_of, next_told, said_named}
+use Rattle.group_history.specs.State.{Ids}
 use Rattle.commit_graph.specs.Reach.{Reaches, itself, through}
-use Rattle.commit_graph.specs.Inside.Meeting.{keys_in, IsFirst, HasKey, LiesChunk}
+use Rattle.commit_graph.specs.Inside.Meeting.{keys_in, IsFirstKey, HasKeyAt, LiesChunk}
 use Rattle.commit_graph.proofs.Spelled.{made_of, spelled_segment, option_map-some, sized-some, chunk-at, inner-at}
 use Rattle.commit_graph.proofs.Spelled.{not_both}
 use Rattle.commit_graph.proofs.Spelled.{segment-grown, map-grown, commit-made, commit-at, content-at, spelled_version}
@@ -43,7 +44,7 @@ leaf_rows ns k rows s h is =
     ap (λ (x : Segment). x.rows) (sym same) ∙ (sized-some _ 1 rows o.0 o.1).1
 
 first_has : (ns : Contents) (k : ℕ) (s : Segment) (c : Chunk Ref) (key : Bytes) → segment_at ns k ≡ Some s
-    → LiesChunk ns k c → IsFirst (keys_in c) (Some key) → HasKey ns k key
+    → LiesChunk ns k c → IsFirstKey (keys_in c) (Some key) → HasKeyAt ns k key
 first_has ns k s (Leaf rows) key h lies f = (
   s,
   h,
@@ -104,7 +105,7 @@ reach_empty ns _ _ s t h e none (through a c b n is child rest) =
         child_filled ns a kids s t c is h i (ap (segment_at ns) (below u.0 u.1) ∙ e) none
 
 empty_only : (ns : Contents) (root k : ℕ) (r s : Segment) (c : Chunk Ref) → segment_at ns root ≡ Some r
-    → segment_at ns k ≡ Some s → LiesChunk ns k c → IsFirst (keys_in c) None → (k ≡ root) ↔ Reaches ns root k
+    → segment_at ns k ≡ Some s → LiesChunk ns k c → IsFirstKey (keys_in c) None → (k ≡ root) ↔ Reaches ns root k
 empty_only ns root k r s (Leaf rows) g h lies f = (
   λ e. subst (λ (w : ℕ). Reaches ns root w) (sym e) (itself root),
   λ w. sym (reach_empty ns root k r s g h (leaf_rows ns k rows s h lies ∙ no_keys rows f) w),
@@ -172,6 +173,19 @@ pub basis_may : (may : Ref → Type 0) (ns : Contents) (k : ℕ) (c : Commit Ref
     → IfAt may (basis_of c)
 basis_may may ns k c at = basis_may_be may c.root c.kind at.0
 
+next_may_be : (may : Ref → Type 0) (basis : Ref) (told : Option Ids) → may basis → IfAt may (next_told basis told)
+next_may_be may basis None h = h
+next_may_be may basis (Some ids) h = tt
+
+next_named_may : (may : Ref → Type 0) (root : Ref) (kind : CommitKind Ref) → AreAll may (root ∷ commits_named kind)
+    → IfAt may (said_named kind).next
+next_named_may may root (Snapshot s) all = tt
+next_named_may may root (Over o) all = next_may_be may o.basis o.told (basis_may_be may root (Over o) all)
+
+pub next_may : (may : Ref → Type 0) (ns : Contents) (k : ℕ) (c : Commit Ref) → IsShownAt may ns k c
+    → IfAt may (next_of c)
+next_may may ns k c at = next_named_may may c.root c.kind at.0
+
 link_may_be : (may : Ref → Type 0) (root : Ref) (kind : CommitKind Ref) (l : Link)
     → AreAll may (root ∷ commits_named kind)
     → link_named kind ≡ Some l → may l.basis
@@ -217,14 +231,14 @@ kept_grown ns more root k h pre = let o = map_ordered ns root h in
     (reaches_stays ns more root k pre, reaches_back ns more root k pre (there_segment ns root o.0 o.1))
 
 pub kept_empty : (ns more : Contents) (root k : ℕ) (c : Chunk Ref) → IsSome (map_at ns root) → IsSome (segment_at ns k)
-    → IsPrefix ns more → LiesChunk more k c → IsFirst (keys_in c) None → (k ≡ root) ↔ Reaches more root k
+    → IsPrefix ns more → LiesChunk more k c → IsFirstKey (keys_in c) None → (k ≡ root) ↔ Reaches more root k
 kept_empty ns more root k c h s pre lies f =
     let o = map_ordered ns root h in let t = some_segment ns k s in
     empty_only more root k o.0 t.0 c (segment-grown ns more root o.0 pre o.1)
     (segment-grown ns more k t.0 pre t.1) lies f
 
 pub kept_key : (ns more : Contents) (k : ℕ) (c : Chunk Ref) (key : Bytes) → IsSome (segment_at ns k) → IsPrefix ns more
-    → LiesChunk more k c → IsFirst (keys_in c) (Some key) → HasKey more k key
+    → LiesChunk more k c → IsFirstKey (keys_in c) (Some key) → HasKeyAt more k key
 kept_key ns more k c key s pre lies f = let t = some_segment ns k s in
     first_has more k t.0 c key (segment-grown ns more k t.0 pre t.1) lies f
 

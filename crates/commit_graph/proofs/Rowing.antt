@@ -109,7 +109,8 @@ pub placed : (low : ℕ) (xs : List (Option NamedNode)) (i : ℕ) (f : NamedNode
     → stamp_in f ≡ low + i
     → StandFrom low (slice_set xs i (Some f)) × Joins (row_nodes xs) (f ∷ []) (row_nodes (slice_set xs i (Some f)))
 placed low [] i f is inside at = absurd (omega (arith, inside))
-placed low (o ∷ xs) zero f is inside at = ((omega (arith, at), is.1), joins_here low o (row_nodes xs) f is.0 (omega (arith, at)))
+placed low (o ∷ xs) zero f is inside at =
+    ((omega (arith, at), is.1), joins_here low o (row_nodes xs) f is.0 (omega (arith, at)))
 placed low (o ∷ xs) (suc i) f is inside at =
     let more = placed (suc low) xs i f is.1 (omega (arith, inside)) (omega (arith, at)) in
     ((is.0, more.0), joins_later o (row_nodes xs) (row_nodes (slice_set xs i (Some f))) (f ∷ []) more.1)

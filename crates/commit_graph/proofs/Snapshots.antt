@@ -8,11 +8,12 @@ use Rattle.group_history.specs.declared.nodes.CommitChange.TheVariants.{Local, C
 use Rattle.group_history.specs.declared.nodes.Node.TheVariants as node
 use Rattle.group_history.specs.State.{State}
 use Rattle.group_history.specs.Spelling.{Contents, Version, version_at, snapshot_at, snapshot_of, stepped, map_at}
-use Rattle.commit_graph.specs.Inside.Chains.{IsSnapshotAt, IsBase}
+use Rattle.commit_graph.specs.Inside.Chains.{IsSnapshotAt, IsBasis}
 use Rattle.commit_graph.proofs.Spelled.{IsMade, commit-made, commit-at, content-at, spelled_version}
 
 -- a step leaves what the server last sent
-base_stepped : (ns : Contents) (k : ℕ) (s : State) (step : CommitChange) → IsBase ns k s → IsBase ns k (stepped s step)
+base_stepped : (ns : Contents) (k : ℕ) (s : State) (step : CommitChange) → IsBasis ns k s
+    → IsBasis ns k (stepped s step)
 base_stepped ns k s (Local x) b = record {
   root = b.root;
   content = b.content;
@@ -32,7 +33,7 @@ base_stepped ns k s Closed b = record {
 
 -- What is found where a chain begins: the snapshot of the state, by no greater stamp.
 pub record Begins (ns : Contents) (k j : ℕ) (s : State) : Type 0 where
-  pub base : IsBase ns j s
+  pub base : IsBasis ns j s
   pub lies : IsSnapshotAt ns j
   pub low : j ≤ k
 
@@ -57,7 +58,7 @@ begins_by ns k j root (Snapshot sn) v is h read at made below =
 begins_by ns k j root (Over o) v is h read at made below =
     let b = below o.basis made.0 o.snapshot made.1 made.2 made.3 in
     subst (λ (i : ℕ). Begins ns k i v.state) (sym at) (record {
-      base = subst (λ (s : State). IsBase ns o.snapshot s) (sym made.5)
+      base = subst (λ (s : State). IsBasis ns o.snapshot s) (sym made.5)
           (base_stepped ns o.snapshot made.0.state o.step b.base);
       lies = b.lies;
       low = omega (arith, b.low, made.1);

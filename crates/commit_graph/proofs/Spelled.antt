@@ -21,7 +21,7 @@ use Rattle.group_history.specs.Spelling.{Contents, Segment, Version, Spelled, se
 use Rattle.group_history.specs.Spelling.{as_snapshot, segment_in, version_in, snapshot_in, basis_in, stepped}
 use Rattle.group_history.specs.Spelling.{state_over, state_in, snapshot_of, rows_if, rows_in, begins_with, joined_one}
 use Rattle.group_history.specs.Spelling.{joined_rows, sized, chunk_in, segment_map, map_in, commit_in, spelled_by}
-use Rattle.group_history.specs.Spelling.{spelled}
+use Rattle.group_history.specs.Spelling.{spelled, tells_right}
 use Rattle.group_history.specs.Spelling.{segment_at, version_at, snapshot_at, map_at}
 use Rattle.group_history.proofs.Folding.{and_then-some, folded_at, answer_within, length_folded}
 use Rattle.group_history.proofs.Spellings.{segment-stays, version-stays, snapshot-stays, map-stays}
@@ -122,15 +122,15 @@ abbrev pub IsMade : Contents → ℕ → CommitKind ℕ → Version → Type 0
 IsMade ns k (Snapshot s) v = v.state ≡ pulled_state v.read s.cookie s.confirmed
 IsMade ns k (Over o) v =
     (b : Version) × (o.basis < k) × (version_at ns o.basis ≡ Some b) × (snapshot_at ns o.basis ≡ Some o.snapshot)
-    × (b.state.closed ≡ false) × (v.state ≡ stepped b.state o.step)
+    × (b.state.closed ≡ false) × (v.state ≡ stepped b.state o.step) × (tells_right o.told b.state ≡ true)
 
 if_there : {A : Type 0} (b : Bool) (o : Option A) (x : A) → (if b then o else None) ≡ Some x → (b ≡ true) × (o ≡ Some x)
 if_there true o x h = (refl, h)
 if_there false o x h = absurd (cc h)
 
-if_open : {A : Type 0} (b : Bool) (x y : A) → (if b then None else Some x) ≡ Some y → (b ≡ false) × (x ≡ y)
-if_open true x y h = absurd (cc h)
-if_open false x y h = (refl, cc h)
+if_open : {A : Type 0} (b : Bool) (o : Option A) (y : A) → (if b then None else o) ≡ Some y → (b ≡ false) × (o ≡ Some y)
+if_open true o y h = absurd (cc h)
+if_open false o y h = (refl, h)
 
 made_so : (ns : Contents) (k : ℕ) (done : List (Option Spelled)) (kind : CommitKind ℕ) (m : Entries) (s : State)
     (v : Version)
@@ -140,18 +140,22 @@ made_so ns k done (Snapshot sn) m s v below is state read =
     let e : pulled_state m sn.cookie sn.confirmed ≡ s = cc is in
     state ∙ sym e ∙ ap (λ (x : Entries). pulled_state x sn.cookie sn.confirmed) (sym read)
 made_so ns k done (Over o) m s v below is state read =
-    let b = and_then-some (basis_in done o.basis o.snapshot) (state_over o.step) s is in
+    let b = and_then-some (basis_in done o.basis o.snapshot) (state_over o.told o.step) s is in
     let j = and_then-some (snapshot_in done o.basis)
     (λ (i : ℕ). if i == o.snapshot then version_in done o.basis else None) b.0 b.1 in
     let t = if_there (j.0 == o.snapshot) (version_in done o.basis) b.0 j.2 in
     let w = below_version ns k done o.basis b.0 below t.1 in
-    let c = if_open b.0.state.closed (stepped b.0.state o.step) s b.2 in (
+    let c = if_open b.0.state.closed
+    (if tells_right o.told b.0.state then Some (stepped b.0.state o.step) else None) s b.2 in
+    let r = if_there (tells_right o.told b.0.state) (Some (stepped b.0.state o.step)) s c.1 in
+    let same : stepped b.0.state o.step ≡ s = cc (r.1) in (
       b.0,
       w.0,
       w.1,
       below_snapshot ns k done o.basis j.0 below j.1 ∙ ap Some (eqb-true j.0 o.snapshot t.0),
       c.0,
-      state ∙ sym c.1,
+      state ∙ sym same,
+      r.0,
     )
 
 -- A commit: its root has a smaller stamp and spells the map that queries read; its chain begins where it says; and what

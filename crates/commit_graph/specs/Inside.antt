@@ -6,3 +6,4 @@ pub mod Reach
 pub mod Meeting
 pub mod Kinds
 pub mod Gaps
+pub mod Telling

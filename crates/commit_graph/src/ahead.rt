@@ -1,7 +1,7 @@
 //! Nodes by their stamps, of which the greatest is taken.
 //!
-//! The newest stand in a row, beside a tree of the others. Where the row is at its end, it begins anew a few stamps below
-//! the next one that is put in; so what a chunk names is mostly near, and the tree has what is far.
+//! The newest stand in a row, beside a tree of the others. Where the row is at its end, it begins anew a few stamps
+//! below the next one that is put in; so what a chunk names is mostly near, and the tree has what is far.
 ghost use Rattle.std.specs.Prelude.{◌≡◌, ◌<◌, ◌++◌, [], ◌∷◌, ℕ, map, IfOk, IfSome, IfNone, IsTrue, OnOk};
 ghost use Rattle.std.specs.BTreeMap.{keys};
 ghost use Rattle.std.specs.List.{Contains};

@@ -1,16 +1,19 @@
 //! A commit's chain: from a head by the bases down to a snapshot.
 //!
 //! Each look (`look_at_commit`) shows one commit to a closure, which tells what is wanted of it, and leaves it again.
-ghost use Rattle.std.specs.Prelude.{◌≡◌, IfOk, IfErr, IsSome};
+ghost use Rattle.std.specs.Prelude.{◌≡◌, [], ◌∷◌, ◌++◌, true, IfOk, IfErr, IsSome, option_map};
 ghost use Rattle.group_history.specs.Refs.{stamp_of};
-ghost use Rattle.group_history.specs.Spelling.{version_at};
+ghost use Rattle.group_history.specs.Spelling.{said_id, version_at};
 ghost use Rattle.map_chunks.specs.Places.{Grows};
-ghost use Rattle.commit_graph.specs.Inside.Chains.{added_by, link_of, top_of, id_in, own_id, basis_of};
+ghost use Rattle.commit_graph.specs.Inside.Chains.{added_by, link_of, top_of, id_alone, own_or_told, own_id, basis_of};
+ghost use Rattle.commit_graph.specs.Inside.Chains.{listed, next_of, next_told, said_of};
+ghost use Rattle.commit_graph.specs.Inside.Telling.{IsLastOf, IsOlder, SaysIds};
 ghost use Rattle.commit_graph.specs.Inside.Chains.{IsSnapshot, HasBase, HasCookie, IsShownAt, LiesAt};
 
 use crate::nodes::{Nodes, ShowsCommit};
 use group_history::{
-    Commit, CommitChange, CommitKind, ConfirmedIds, Cookie, Mutation, Ref, Stop, Text,
+    Commit, CommitChange, CommitKind, Confirmed, ConfirmedIds, Cookie, Mutation, Ref, Stop,
+    Successor, Text,
 };
 use std::alloc::AllocError;
 
@@ -41,11 +44,22 @@ pub struct Base {
     pub pulled: Ref,
 }
 
-/// The id that one commit knows of a client, and the commit before it.
+/// The id that one commit knows of a client, and the commit where it is sought next.
 #[derive(Clone, Copy)]
 pub struct OwnId {
     pub id: u64,
-    pub basis: Option<Ref>,
+    pub next: Option<Ref>,
+}
+
+/// What one commit says of clients' last ids.
+#[derive(Drop)]
+pub struct SaidIds {
+    /// The id of its own mutation, where it isn't known to be an old one.
+    pub said: Option<Confirmed>,
+    /// Each client's last id before it, where it tells them; at a snapshot, each client's confirmed one.
+    pub told: Option<ConfirmedIds>,
+    /// The commit where they are sought next, where it doesn't.
+    pub next: Option<Ref>,
 }
 
 fn added_by(step: &CommitChange) -> Result<Option<Mutation>, AllocError>
@@ -99,7 +113,7 @@ pub fn basis_in(commit: &Commit<Ref>) -> Option<Ref>
 }
 
 fn id_in(step: &CommitChange, client: &Text) -> u64
-    ensures { result ≡ id_in client.now step.now }
+    ensures { result ≡ id_alone client.now step.now }
 {
     match step {
         CommitChange::Local(mutation) => {
@@ -113,20 +127,102 @@ fn id_in(step: &CommitChange, client: &Text) -> u64
     }
 }
 
-/// The id that a commit alone knows of a client, and the commit before it.
+// Where ids are sought behind a commit over a basis.
+fn next_told(over: &Successor<Ref>) -> Option<Ref>
+    ensures { result ≡ next_told over.now.basis over.now.told }
+{
+    match &over.told {
+        Some(_) => None,
+        None => Some(over.basis),
+    }
+}
+
+// A client's id at a commit over a basis whose own mutation has this one of the client's.
+fn id_told(over: &Successor<Ref>, own: u64, client: &Text) -> u64
+    ensures { result ≡ own_or_told client.now own over.now.told }
+{
+    match &over.told {
+        Some(ids) if own == 0 => ids.of(client),
+        _ => own,
+    }
+}
+
+/// The id that a commit alone knows of a client, and the commit where it is sought next.
 pub fn own_id_in(commit: &Commit<Ref>, client: &Text) -> OwnId
     ensures id { result.id ≡ own_id client.now commit.now }
-    ensures basis { result.basis ≡ basis_of commit.now }
+    ensures next { result.next ≡ next_of commit.now }
 {
     match &commit.kind {
         CommitKind::Snapshot(snapshot) => OwnId {
             id: snapshot.confirmed.of(client),
-            basis: None,
+            next: None,
         },
         CommitKind::Over(over) => OwnId {
-            id: id_in(&over.step, client),
-            basis: Some(over.basis),
+            id: id_told(over, id_in(&over.step, client), client),
+            next: next_told(over),
         },
+    }
+}
+
+// Whether the last id is of this client.
+fn ends_with(ids: &[Confirmed], client: &Text) -> bool
+    ensures { result ≡ true → IsLastOf client.now ids.now }
+{
+    match ids.split_last() {
+        Some((last, _)) => last.client == *client,
+        None => false,
+    }
+}
+
+// The id of a mutation, which is older than these ids, the newest of which stands first; none where the last of them is
+// its client's.
+fn said_by(mutation: &Mutation, newer: &[Confirmed]) -> Result<Option<Confirmed>, AllocError>
+    ensures { IfOk result (λ said. IsOlder newer.now (said_id mutation.now ∷ []) (newer.now ++ listed said)) }
+{
+    if ends_with(newer, &mutation.client) {
+        return Ok(None);
+    }
+    Ok(Some(Confirmed {
+        client: mutation.client.clone()?,
+        id: mutation.id,
+    }))
+}
+
+fn said_of_step(step: &CommitChange, newer: &[Confirmed]) -> Result<Option<Confirmed>, AllocError>
+    ensures { IfOk result (λ said. IsOlder newer.now (listed (option_map said_id (added_by step.now)))
+        (newer.now ++ listed said)) }
+{
+    match step {
+        CommitChange::Local(mutation) => said_by(mutation, newer),
+        CommitChange::Closed => Ok(None),
+    }
+}
+
+fn copy_told(told: &Option<ConfirmedIds>) -> Result<Option<ConfirmedIds>, AllocError>
+    ensures { IfOk result (λ copy. copy ≡ told.now) }
+{
+    match told {
+        Some(ids) => Ok(Some(ids.clone()?)),
+        None => Ok(None),
+    }
+}
+
+/// What a commit says of clients' last ids that isn't known from these newer ones, of which the newest stands first.
+pub fn said_in(commit: &Commit<Ref>, newer: &[Confirmed]) -> Result<SaidIds, AllocError>
+    ensures { IfOk result (SaysIds newer.now (said_of commit.now)) }
+{
+    match &commit.kind {
+        CommitKind::Snapshot(snapshot) => Ok(SaidIds {
+            said: None,
+            told: Some(snapshot.confirmed.clone()?),
+            next: None,
+        }),
+        CommitKind::Over(over) => {
+            let said = said_of_step(&over.step, newer)?;
+            let told = copy_told(&over.told)?;
+            let next = next_told(over);
+            Ok(SaidIds { said, told, next })
+        }
     }
 }
 

@@ -31,7 +31,8 @@ impl Model for Frontier {
 }
 
 impl Frontier {
-    /// Of a walk that has met one stamp and looks at nothing yet, with so many places for the stamps from a lowest one on.
+    /// Of a walk that has met one stamp and looks at nothing yet, with so many places for the stamps from a lowest one
+    /// on.
     pub fn new(alloc: Global, stamp: u64, low: u64, places: usize) -> Result<Frontier, AllocError>
         ensures ahead { IfOk result (λ frontier. frontier.ahead ≡ []) }
         ensures met { IfOk result (λ frontier. (x : ℕ) → Contains frontier.met x → x ≡ stamp) }

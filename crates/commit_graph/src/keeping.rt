@@ -7,7 +7,7 @@ ghost use Rattle.group_history.specs.declared.refs.Ref.{Ref as Reference};
 ghost use Rattle.group_history.specs.declared.mutators.Stop.TheVariants.{NoMemory};
 ghost use Rattle.map_chunks.specs.Places.{Grows};
 ghost use Rattle.commit_graph.specs.Inside.Gaps.{HasGap};
-ghost use Rattle.commit_graph.specs.Inside.Meeting.{keys_in, IsFirst, LiesChunk};
+ghost use Rattle.commit_graph.specs.Inside.Meeting.{keys_in, IsFirstKey, LiesChunk};
 ghost use Rattle.commit_graph.specs.Reach.{Reaches};
 ghost use Rattle.commit_graph.specs.Inside.Reach.{IsSpelled, ref_in, stamp_in};
 
@@ -23,7 +23,7 @@ use map_chunks::looks::look_at;
 use std::alloc::AllocError;
 
 fn first_of(keys: &[Text]) -> Result<Option<Text>, AllocError>
-    ensures { IfOk result (IsFirst keys.now) }
+    ensures { IfOk result (IsFirstKey keys.now) }
 {
     if keys.is_empty() {
         return Ok(None);
@@ -32,7 +32,7 @@ fn first_of(keys: &[Text]) -> Result<Option<Text>, AllocError>
 }
 
 fn first_key_in(chunk: &Chunk<Ref>) -> Result<Option<Text>, AllocError>
-    ensures { IfOk result (IsFirst (keys_in chunk.now)) }
+    ensures { IfOk result (IsFirstKey (keys_in chunk.now)) }
 {
     match chunk {
         Chunk::Leaf(leaf) => first_of(leaf.keys().as_slice()),

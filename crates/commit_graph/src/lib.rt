@@ -14,8 +14,9 @@
 //! what it has is passed over by its stamps, with no descent for each. A mutation drops nothing.
 //!
 //! A client's last id is that of the newest of its commits, or else what the snapshot confirmed. The search begins at
-//! the head and ends at the first commit of the client, or where its id was found before; for a client with nothing
-//! pending it goes down to the snapshot.
+//! the head and ends at the first commit of the client, at one that tells each client's last id before it, or where the
+//! id was found before; else it goes down to the snapshot. Which commits tell them is a matter of cost; what a commit
+//! tells is right, or it spells nothing (`tells_right`).
 //!
 //! Decisions. `StoreNodes` reads a store as if its contents were constant: each shown node comes with a mark, and of
 //! two marks of one book one is a prefix of the other, so what is shown of a stamp that the reader's mark knows is what
@@ -43,6 +44,7 @@ mod seats;
 mod shelves;
 mod states;
 mod stores;
+mod telling;
 
 pub use chains::{Base, Top};
 pub use handing::{TakesMutations, hand_pending};
@@ -52,7 +54,8 @@ pub use reaching::dropped;
 pub use seats::{ClientSeat, Shared};
 pub use shelves::LentCommit;
 pub use states::{
-    CommitState, LastId, base_at, base_of, closed_of, cookie_of, last_id_since, read_root,
-    state_of, top_of, walk,
+    CommitState, LastId, SoughtId, base_at, base_of, closed_of, cookie_of, last_id_since,
+    read_root, state_of, top_of, walk,
 };
 pub use stores::{HeldChunk, HeldCommit, StoreNodes};
+pub use telling::last_ids_at;

@@ -11,7 +11,7 @@ ghost use Rattle.group_history.specs.Spelling.{segment_at, map_at};
 ghost use Rattle.group_history.specs.declared.nodes.Chunk.{Chunk as Chunked};
 ghost use Rattle.group_history.specs.declared.refs.Ref.{Ref as Reference};
 ghost use Rattle.map_chunks.specs.Places.{Grows};
-ghost use Rattle.commit_graph.specs.Inside.Meeting.{choose, child_for, HasKey, LiesChunk};
+ghost use Rattle.commit_graph.specs.Inside.Meeting.{choose, child_for, HasKeyAt, LiesChunk};
 ghost use Rattle.commit_graph.specs.Reach.{Reaches};
 
 use group_history::{Chunk, Ref, Stop, Text};
@@ -44,7 +44,7 @@ pub fn child_in(chunk: &Chunk<Ref>, key: &Text) -> Option<Ref>
 pub fn meets<C: Chunks>(chunks: &mut C, root: Ref, key: &Text, stamp: u64) -> Result<bool, Stop>
     requires root { IsSome (map_at (C.contents chunks.old) (stamp_of root)) }
     requires place { C.places chunks.old root }
-    requires key { HasKey (C.contents chunks.old) stamp key.now }
+    requires key { HasKeyAt (C.contents chunks.old) stamp key.now }
     ensures grown { Grows C.contents C.places chunks.old chunks.new }
     ensures met { IfOk result (λ met. IsTrue met ↔ Reaches (C.contents chunks.old) (stamp_of root) stamp) }
     ensures stopped { IfErr result C.stops }

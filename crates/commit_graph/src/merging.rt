@@ -3,7 +3,7 @@ ghost use Rattle.std.specs.Prelude.{◌≡◌, ◌≢◌, ◌<◌, ◌≤◌, �
 ghost use Rattle.std.specs.Bool.{Decides};
 ghost use Rattle.group_history.specs.Refs.{stamp_of};
 ghost use Rattle.commit_graph.specs.Reach.{Falls, stamps_of};
-ghost use Rattle.commit_graph.specs.Inside.Reach.{Leaves};
+ghost use Rattle.commit_graph.specs.Inside.Reach.{Omits};
 
 use group_history::Ref;
 use std::alloc::{AllocError, Global};
@@ -43,7 +43,7 @@ fn is_at(kept: &[Ref], place: usize, stamp: u64) -> bool
 pub fn without(alloc: Global, before: &[Ref], kept: &[Ref]) -> Result<Vec<Ref>, AllocError>
     requires before { Falls (stamps_of before.now) }
     requires kept { Falls (stamps_of kept.now) }
-    ensures exact { IfOk result (λ left. Leaves before.now kept.now left.items) }
+    ensures exact { IfOk result (λ left. Omits before.now kept.now left.items) }
     ensures once { IfOk result (λ left. Falls (stamps_of left.items)) }
 {
     let mut left = Vec::new(alloc);

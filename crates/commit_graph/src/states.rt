@@ -12,7 +12,7 @@ ghost use Rattle.group_history.specs.declared.mutators.Stop.TheVariants.{NoMemor
 ghost use Rattle.map_chunks.specs.Places.{Grows};
 ghost use Rattle.commit_graph.specs.Chains.{IsBaseOf};
 ghost use Rattle.commit_graph.specs.Inside.Chains as seen;
-ghost use Rattle.commit_graph.specs.Inside.Chains.{IsBase, IsSnapshotAt, basis_of, listed, own_id};
+ghost use Rattle.commit_graph.specs.Inside.Chains.{IsBasis, IsSnapshotAt, listed, next_of, own_id};
 ghost use Rattle.commit_graph.specs.LastIds.{last_at};
 ghost use Rattle.commit_graph.specs.Reach.{Reaches};
 ghost use Rattle.commit_graph.specs.declared.states.LastId.{LastId as Ids};
@@ -87,7 +87,7 @@ pub(crate) fn snapshot_of<N: Nodes>(nodes: &mut N, head: Ref) -> Result<Ref, Sto
     ensures lies { IfOk result (λ at. IsSnapshotAt (N.contents nodes.new) (stamp_of at)) }
     ensures reached { IfOk result (λ at. Reaches (N.contents nodes.new) (stamp_of head) (stamp_of at)) }
     ensures state { (v : Version) → version_at (N.contents nodes.old) (stamp_of head) ≡ Some v
-        → IfOk result (λ at. IsBase (N.contents nodes.new) (stamp_of at) v.state) }
+        → IfOk result (λ at. IsBasis (N.contents nodes.new) (stamp_of at) v.state) }
     ensures stopped { IfErr result N.stops }
 {
     let top = top_of(nodes, head)?;
@@ -220,6 +220,17 @@ pub struct LastId {
     pub id: u64,
 }
 
+/// A client's last id, as it was found by a walk.
+#[derive(Clone, Copy)]
+pub struct SoughtId {
+    pub id: u64,
+    /// Whether so many commits were looked at that the next one had better tell each client's last id.
+    pub is_far: bool,
+}
+
+// How many commits a walk may look at that isn't far.
+const NEAR: u32 = 32;
+
 // The id that was found before, at the commit where it was found.
 fn found_at(before: Option<LastId>, at: Ref) -> Option<u64>
     ensures { IfSome result (λ id. (found : Ids) × (before ≡ Some found) × (stamp_of found.at ≡ stamp_of at)
@@ -235,15 +246,15 @@ fn found_at(before: Option<LastId>, at: Ref) -> Option<u64>
 }
 
 /// A client's last id, where the ids follow: that of its newest commit, or else what the snapshot has confirmed, 0 for
-/// a client that is in neither. The walk ends there, and where it meets the commit at which the id was found before.
-/// Stops where the nodes stop.
+/// a client that is in neither. The walk ends there, at a commit that tells each client's last id, and where it meets
+/// the commit at which the id was found before. Stops where the nodes stop.
 #[inline(always)]
 pub fn last_id_since<N: Nodes>(
     nodes: &mut N,
     head: Ref,
     client: &Text,
     before: Option<LastId>,
-) -> Result<u64, Stop>
+) -> Result<SoughtId, Stop>
     requires head { IsSome (version_at (N.contents nodes.old) (stamp_of head)) }
     requires place { N.places nodes.old head }
     requires ids { (v : Version) → version_at (N.contents nodes.old) (stamp_of head) ≡ Some v
@@ -252,11 +263,11 @@ pub fn last_id_since<N: Nodes>(
         → last_at (N.contents nodes.old) (stamp_of found.at) client.now ≡ Some found.id }
     ensures grown { Grows N.contents N.places nodes.old nodes.new }
     ensures id { (v : Version) → version_at (N.contents nodes.old) (stamp_of head) ≡ Some v
-        → IfOk result (λ id. id ≡ last_id v.state client.now) }
+        → IfOk result (λ sought. sought.id ≡ last_id v.state client.now) }
     ensures stopped { IfErr result N.stops }
 {
     if let Some(id) = found_at(before, head) {
-        return Ok(id);
+        return Ok(SoughtId { id, is_far: false });
     }
     last_id_from(nodes, head, client, before)
 }
@@ -268,7 +279,7 @@ fn last_id_from<N: Nodes>(
     head: Ref,
     client: &Text,
     before: Option<LastId>,
-) -> Result<u64, Stop>
+) -> Result<SoughtId, Stop>
     requires head { IsSome (version_at (N.contents nodes.old) (stamp_of head)) }
     requires place { N.places nodes.old head }
     requires ids { (v : Version) → version_at (N.contents nodes.old) (stamp_of head) ≡ Some v
@@ -277,28 +288,32 @@ fn last_id_from<N: Nodes>(
         → last_at (N.contents nodes.old) (stamp_of found.at) client.now ≡ Some found.id }
     ensures grown { Grows N.contents N.places nodes.old nodes.new }
     ensures id { (v : Version) → version_at (N.contents nodes.old) (stamp_of head) ≡ Some v
-        → IfOk result (λ id. id ≡ last_id v.state client.now) }
+        → IfOk result (λ sought. sought.id ≡ last_id v.state client.now) }
     ensures stopped { IfErr result N.stops }
 {
     let mut next = Some(head);
+    let mut left = NEAR;
     while let Some(at) = next {
+        let is_far = left == 0;
         if let Some(id) = found_at(before, at) {
-            return Ok(id);
+            return Ok(SoughtId { id, is_far });
         }
+        left = left.saturating_sub(1);
         let own = look_at_commit(
             nodes,
             at,
             &mut |commit|
                 ensures id { result.id ≡ own_id client.entry.now commit.now }
-                ensures basis { result.basis ≡ basis_of commit.now }
+                ensures next { result.next ≡ next_of commit.now }
             { own_id_in(commit, client) },
         )?;
         if own.id > 0 {
-            return Ok(own.id);
+            return Ok(SoughtId { id: own.id, is_far });
         }
-        next = own.basis;
+        next = own.next;
     }
-    Ok(0)
+    let is_far = left == 0;
+    Ok(SoughtId { id: 0, is_far })
 }
 
 /// The root of the map that queries read at a commit: the reference that the commit names.

@@ -137,8 +137,8 @@ module _ (done more : List (Option Spelled)) (h : ℕ → ℕ) (go : Carries don
       → state_in more (renamed_kind h k) m ≡ Some s
   state-carried (Snapshot sn) m s is = is
   state-carried (Over o) m s is =
-      let b = and_then-some (basis_in done o.basis o.snapshot) (state_over o.step) s is in
-      ap (λ p. option_and_then (state_over o.step) p) (basis-carried o.basis o.snapshot b.0 b.1) ∙ b.2
+      let b = and_then-some (basis_in done o.basis o.snapshot) (state_over o.told o.step) s is in
+      ap (λ p. option_and_then (state_over o.told o.step) p) (basis-carried o.basis o.snapshot b.0 b.1) ∙ b.2
 
   commit-carried : (c : Commit ℕ) (v : Version) → commit_in done c ≡ Some v
       → commit_in more (renamed_commit h c) ≡ Some v

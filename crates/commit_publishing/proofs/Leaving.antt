@@ -12,8 +12,8 @@ use Rattle.group_history.specs.declared.nodes.Node.{Node}
 use Rattle.head_word.specs.Books.{drafted as drafted_by}
 use Rattle.head_word.specs.Marks.{Known, own}
 use Rattle.commit_graph.specs.Seats.{SeatState}
-use Rattle.commit_publishing.specs.Inside.Stacks.{AreBelow, HasTaken}
-use Rattle.commit_publishing.specs.Retiring.{AreFreed, AreLetGo, GivenUp, GivesOneUp, GivesUp, IsGivenUp, drafted}
+use Rattle.commit_publishing.specs.Inside.Stacks.{AreLower, HasTaken}
+use Rattle.commit_publishing.specs.Retiring.{AreFreed, AreLetGo, GivenUp, GivesOneUp, GivesUp, IsGivenUp, draft_deeds}
 use Rattle.commit_publishing.proofs.Lying.{taken_below}
 use Rattle.commit_publishing.proofs.Popping.{length_taken}
 
@@ -69,7 +69,7 @@ gives_up_known slots reached later by (g ∷ gs) xs zs low (ys, one, rest) = (
   record {
     within = one.within;
     drew = one.drew;
-    freed = freed_known slots reached later g.settled (drafted g.settled g.withdrawn xs) ys low one.freed;
+    freed = freed_known slots reached later g.settled (draft_deeds g.settled g.withdrawn xs) ys low one.freed;
   },
   gives_up_known slots reached later by gs ys zs low rest,
 )
@@ -84,7 +84,7 @@ gives_up_more slots reached by (g ∷ gs) hs xs ys zs (mid, one, rest) b =
 
 -- a draft of which no stamp was drawn: its slots were withdrawn
 pub gives_unplaced : (slots end count : ℕ) (xs : List Deed) (old new : SeatState) (back : List ℕ) → length back ≤ count
-    → AreBelow end back → new.view.deeds ≡ drafted [] back xs → own new.mark ≡ own old.mark
+    → AreLower end back → new.view.deeds ≡ draft_deeds [] back xs → own new.mark ≡ own old.mark
     → GivesOneUp slots end count xs old new
 gives_unplaced slots end count xs old new back few low did same = record {
   given = record { end = end; settled = []; withdrawn = back; entries = [] };
@@ -96,10 +96,10 @@ gives_unplaced slots end count xs old new back few low did same = record {
 
 -- and one whose stamps were drawn: what was settled of its slots was let go
 pub gives_placed : (slots end count : ℕ) (xs : List Deed) (v : View) (old new : SeatState) (held : List ℕ) (first : ℕ)
-    (contents : List (Node Child)) → HasTaken v held → AreBelow end held → length held ≡ count
+    (contents : List (Node Child)) → HasTaken v held → AreLower end held → length held ≡ count
     → length contents ≡ count → own new.mark ≡ own old.mark ++ drafted_by old.mark.seat first contents ∷ []
     → (settled withdrawn : List ℕ) × (v.taken ≡ settled ++ withdrawn)
-    × AreFreed slots new.view.reached settled (drafted settled withdrawn xs) new.view.deeds
+    × AreFreed slots new.view.reached settled (draft_deeds settled withdrawn xs) new.view.deeds
     → GivesOneUp slots end count xs old new
 gives_placed slots end count xs v old new held first contents has below all each drew
     (settled, withdrawn, split, freed) =
@@ -113,7 +113,7 @@ gives_placed slots end count xs v old new held first contents has below all each
       ends = refl;
       few = omega (arith, many, whole, all);
       up = record {
-        within = subst (AreBelow end) split (taken_below end v held has below);
+        within = subst (AreLower end) split (taken_below end v held has below);
         drew = inr (first, contents, omega (arith, many, whole, all, each), refl);
         freed = freed;
       };

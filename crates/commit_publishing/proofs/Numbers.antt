@@ -26,7 +26,7 @@ use Rattle.head_word.specs.declared.entry.Entry.{Entry}
 use Rattle.head_word.specs.Books.{child_from, drafted, drafted_from, drafted_contents, drawn, next_stamp, IsBefore}
 use Rattle.head_word.specs.Books.{AreAfter}
 use Rattle.head_word.proofs.Books.{drawn_more}
-use Rattle.map_chunks.specs.Drafts.{Drafted as Draft, AreBelow, AreOrdered}
+use Rattle.map_chunks.specs.Drafts.{Drafted as Draft, AreBelow, AreChildrenBelow}
 use Rattle.commit_publishing.specs.Placed.{IsPlaced}
 use Rattle.commit_publishing.specs.Stamped.{restamped, drawn_as, AreFrom}
 use Rattle.commit_publishing.specs.Inside.Steps.{AreDrawn}
@@ -137,7 +137,7 @@ node_stamped from first refs n are below =
     (restamped from first) n (λ at h. ref_stamped from first refs at are (below at h))
 
 -- the order of a draft's nodes
-ordered_at : (n : ℕ) (xs : List (Node Ref)) (x : Node Ref) (ys : List (Node Ref)) → AreOrdered n (xs ++ x ∷ ys)
+ordered_at : (n : ℕ) (xs : List (Node Ref)) (x : Node Ref) (ys : List (Node Ref)) → AreChildrenBelow n (xs ++ x ∷ ys)
     → AreBelow (n + length xs) (children x)
 ordered_at n [] x ys order = subst (λ k. AreBelow k (children x)) (let e : n ≡ n + 0 = omega arith in e) order.0
 ordered_at n (w ∷ xs) x ys order = subst (λ k. AreBelow k (children x))
@@ -161,11 +161,12 @@ drawn_at from first xs x ys contents are =
 
 -- so each node is, where its turn comes, the content of its stamp
 pub turn_drawn : (from first : ℕ) (nodes xs : List (Node Ref)) (x : Node Ref) (ys : List (Node Ref)) (refs : List Ref)
-    (contents : Contents) → nodes ≡ xs ++ x ∷ ys → length refs ≡ length xs → AreOrdered from nodes → AreFrom first refs
+    (contents : Contents) → nodes ≡ xs ++ x ∷ ys → length refs ≡ length xs → AreChildrenBelow from nodes
+    → AreFrom first refs
     → AreDrawn from first nodes contents
     → slice_get contents (first + length refs) ≡ Some (content_of (renamed (placed_ref from refs) x))
 turn_drawn from first nodes xs x ys refs contents whole count order are drawn =
-    let order' = subst (AreOrdered from) whole order in
+    let order' = subst (AreChildrenBelow from) whole order in
     let drawn' = subst (λ (w : List (Node Ref)). AreDrawn from first w contents) whole drawn in
     let below = subst (λ k. AreBelow (from + k) (children x)) (sym count) (ordered_at from xs x ys order') in
     ap (λ k. slice_get contents (first + k)) count ∙
@@ -197,7 +198,7 @@ child_before n from place at le h = cond_both (nat_lt (stamp_of at) from) (Place
     (λ no. let l : from ≤ stamp_of at = grind (arith, nat_tests, no) in omega (arith, h, l))
 
 -- children below their parents were drawn, or stand at earlier places
-after_from : (n from place : ℕ) (ns : List (Node Ref)) → from ≤ n → AreOrdered (from + place) ns
+after_from : (n from place : ℕ) (ns : List (Node Ref)) → from ≤ n → AreChildrenBelow (from + place) ns
     → AreAfter n place (drafted_from from ns)
 after_from n from place [] le h = tt
 after_from n from place (c ∷ cs) le h = (
@@ -205,11 +206,11 @@ after_from n from place (c ∷ cs) le h = (
       (All-map (IsBefore n place) (child_from from) (children c)
       (λ k d lt. child_before n from place (slice_index_or (children c) k d) le
       (h.0 (slice_index_or (children c) k d) (All-contains_itself (children c) k d lt)))),
-  after_from n from (suc place) cs le (subst (λ k. AreOrdered k cs)
+  after_from n from (suc place) cs le (subst (λ k. AreChildrenBelow k cs)
       (let e : suc (from + place) ≡ from + suc place = omega arith in e) h.1),
 )
 
-pub ordered_after : (n from : ℕ) (ns : List (Node Ref)) → from ≤ n → AreOrdered from ns
+pub ordered_after : (n from : ℕ) (ns : List (Node Ref)) → from ≤ n → AreChildrenBelow from ns
     → AreAfter n 0 (drafted_from from ns)
 ordered_after n from ns le h = after_from n from 0 ns le
-    (subst (λ k. AreOrdered k ns) (let e : from ≡ from + 0 = omega arith in e) h)
+    (subst (λ k. AreChildrenBelow k ns) (let e : from ≡ from + 0 = omega arith in e) h)

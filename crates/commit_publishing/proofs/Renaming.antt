@@ -50,9 +50,9 @@ kind-same : {A B : Type 0} (f g : A → B) (k : CommitKind A) → Agree f g (com
 kind-same f g (Snapshot s) same = refl
 kind-same f g (Over o) same =
     let rest = o.snapshot ∷ [] in
-    ap (λ b. Over (record { basis = b; snapshot = f o.snapshot; step = o.step }))
+    ap (λ b. Over (record { basis = b; snapshot = f o.snapshot; step = o.step; told = o.told }))
     (same o.basis (first_here o.basis rest))
-    ∙ ap (λ s. Over (record { basis = g o.basis; snapshot = s; step = o.step }))
+    ∙ ap (λ s. Over (record { basis = g o.basis; snapshot = s; step = o.step; told = o.told }))
     (same o.snapshot (later_here o.basis rest o.snapshot (first_here o.snapshot [])))
 
 pub renamed-same : {A B : Type 0} (f g : A → B) (n : Node A) → Agree f g (children n) → renamed f n ≡ renamed g n

@@ -9,7 +9,7 @@ use Rattle.reader_claims.specs.Deeds as deed
 use Rattle.reader_claims.specs.Deeds.{Deed}
 use Rattle.reader_claims.specs.Passes.{OnlyTakes}
 use Rattle.reader_claims.specs.declared.view.View.{View}
-use Rattle.commit_publishing.specs.Retiring.{drafted}
+use Rattle.commit_publishing.specs.Retiring.{draft_deeds}
 use Rattle.commit_publishing.specs.Inside.Stacks.{Uses}
 
 pub uses_none : (v : View) → Uses v [] [] v
@@ -59,20 +59,20 @@ uses_all s u withdrawn uses none =
 pub as_drafted : (s u : View) (settled withdrawn : List ℕ) (xs : List Deed) → s.deeds ≡ map deed.took s.taken ++ xs
     → s.taken ≡ settled ++ withdrawn
     → u.deeds ≡ map deed.withdrew (reverse withdrawn) ++ (map deed.settled (reverse settled) ++ s.deeds)
-    → u.deeds ≡ drafted settled withdrawn xs
+    → u.deeds ≡ draft_deeds settled withdrawn xs
 as_drafted s u settled withdrawn xs took all did = did
     ∙ ap (λ (ys : List Deed). map deed.withdrew (reverse withdrawn) ++ (map deed.settled (reverse settled) ++ ys))
     (took ∙ ap (λ (is : List ℕ). map deed.took is ++ xs) all)
 
 -- all were settled
 pub all_settled : (s u : View) (settled : List ℕ) (xs : List Deed) → s.deeds ≡ map deed.took s.taken ++ xs
-    → Uses s settled [] u → u.taken ≡ [] → u.deeds ≡ drafted settled [] xs
+    → Uses s settled [] u → u.taken ≡ [] → u.deeds ≡ draft_deeds settled [] xs
 all_settled s u settled xs took uses none = as_drafted s u settled [] xs took
     (uses.0 ∙ ap (λ (is : List ℕ). settled ++ is) none) uses.1
 
 -- slots that were taken, and then all of them withdrawn
 pub taken_back : (v w u : View) (taken : List ℕ) → OnlyTakes v w taken → v.taken ≡ [] → Uses w [] w.taken u
-    → u.deeds ≡ drafted [] w.taken v.deeds
+    → u.deeds ≡ draft_deeds [] w.taken v.deeds
 taken_back v w u taken took none uses =
     let all : w.taken ≡ taken = took.0 ∙ ap (λ (xs : List ℕ). taken ++ xs) none ∙ append-nil taken in
     as_drafted w u [] w.taken v.deeds

@@ -14,7 +14,7 @@ use Rattle.reader_claims.specs.declared.view.View.{View}
 use Rattle.reader_claims.specs.Deeds.{Deed}
 use Rattle.reader_claims.specs.Passes.{AreShut}
 use Rattle.reader_claims.specs.Views.{ArePinsRead}
-use Rattle.commit_publishing.specs.Retiring.{drafted}
+use Rattle.commit_publishing.specs.Retiring.{draft_deeds}
 use Rattle.commit_publishing.specs.Stamped.{AreFrom, drawn_as}
 
 -- By a call before which `before` was known as drawn, and after it `after`, the draft's nodes drew the stamps of these
@@ -52,5 +52,5 @@ pub record FoundNoneFor (v u : View) (end count : ℕ) : Type 0 where
   pub own : List ℕ
   pub few : length own < count
   pub before : List Deed
-  pub back : u.deeds ≡ drafted [] own before
+  pub back : u.deeds ≡ draft_deeds [] own before
   pub slots : AreShut own 0 end u

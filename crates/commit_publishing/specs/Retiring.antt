@@ -16,8 +16,8 @@ use Rattle.linearized.specs.declared.trying.Published.TheVariants as published
 
 -- Slots were taken, the last one stands first; those of `settled` were settled, one after the other, and then those of
 -- `withdrawn` withdrawn.
-abbrev pub drafted : List ℕ → List ℕ → List Deed → List Deed
-drafted settled withdrawn xs = map deed.withdrew (reverse withdrawn)
+abbrev pub draft_deeds : List ℕ → List ℕ → List Deed → List Deed
+draft_deeds settled withdrawn xs = map deed.withdrew (reverse withdrawn)
     ++ (map deed.settled (reverse settled) ++ (map deed.took (settled ++ withdrawn) ++ xs))
 
 -- Of a table with so many slots, these slots were let go at r, one after the other: each was retired, or found not
@@ -55,7 +55,7 @@ Draws by count entries = (entries ≡ []) ⊎ ((first : ℕ) × (contents : List
 pub record IsGivenUp (slots reached : ℕ) (by : Option ℕ) (g : GivenUp) (xs ys : List Deed) : Type 0 where
   pub within : All (λ i. i < g.end) (taken_for g)
   pub drew : Draws by (length (taken_for g)) g.entries
-  pub freed : AreFreed slots reached g.settled (drafted g.settled g.withdrawn xs) ys
+  pub freed : AreFreed slots reached g.settled (draft_deeds g.settled g.withdrawn xs) ys
 
 -- these drafts were given up, one after the other, and nothing else was done
 abbrev pub GivesUp : ℕ → ℕ → Option ℕ → List GivenUp → List Deed → List Deed → Type 0
@@ -64,8 +64,8 @@ GivesUp slots reached by (g ∷ gs) xs zs = (ys : List Deed) × IsGivenUp slots 
     × GivesUp slots reached by gs ys zs
 
 -- the entries that were added to the book for them
-abbrev pub entries_of : List GivenUp → List Entry
-entries_of gs = flat_map (λ g. g.entries) gs
+abbrev pub entries_drawn : List GivenUp → List Entry
+entries_drawn gs = flat_map (λ g. g.entries) gs
 
 -- A draft of so many nodes was given up, since xs was done, and since `old` was seen of the book: no more slots below
 -- the end were taken for it than it has nodes.

@@ -7,7 +7,7 @@ ghost use Rattle.head_word.specs.declared.entry.Entry.{Entry};
 ghost use Rattle.head_word.specs.Books.{next_stamp, drafted, drafted_from};
 ghost use Rattle.head_word.specs.Marks.{others, own};
 ghost use Rattle.linearized.specs.Answered.{own_moves};
-ghost use Rattle.map_chunks.specs.Drafts.{AreOrdered};
+ghost use Rattle.map_chunks.specs.Drafts.{AreChildrenBelow};
 ghost use Rattle.commit_graph.specs.Seats.{IsLater};
 
 use group_history::{Means, Node, Ref, Refusal};
@@ -26,7 +26,7 @@ pub(crate) fn draw<M: Means>(
     requires number { IsSome mark.old.seat }
     requires some { 0 < length nodes.now }
     requires from { from ≤ next_stamp mark.old.log }
-    requires order { AreOrdered from nodes.now }
+    requires order { AreChildrenBelow from nodes.now }
     ensures later { IsLater mark.old mark.new }
     ensures own { own_moves mark.new ≡ own_moves mark.old }
     ensures once { IfOk result (λ first. own mark.new

@@ -9,7 +9,7 @@ ghost use Rattle.linearized.specs.Trying.{Ends, IsMove, added};
 ghost use Rattle.linearized.specs.declared.trying.Published.TheVariants as published;
 ghost use Rattle.commit_graph.specs.Reach.{IsDropped};
 ghost use Rattle.commit_graph.specs.Seats.{IsSeatOf, IsSameSeat};
-ghost use Rattle.commit_publishing.specs.Retiring.{AreFreed, drafted, unneeded};
+ghost use Rattle.commit_publishing.specs.Retiring.{AreFreed, draft_deeds, unneeded};
 
 use crate::retiring::retire_all;
 use chunk_slots::Slots;
@@ -39,7 +39,7 @@ pub fn publish_draft<M: Means, S: Slots<M>>(
     requires home { IsSeatOf shared.now seat.old }
     requires none { S.reused → seat.old.view.taken ≡ [] }
     requires drafted { S.reused → (before : List Deed)
-        × (seat.old.view.deeds ≡ drafted (map slot_of to.now.refs.now) [] before) }
+        × (seat.old.view.deeds ≡ draft_deeds (map slot_of to.now.refs.now) [] before) }
     requires among { Contains to.now.refs.now to.now.new }
     requires follows { IsChangeFrom M.means (drawn seat.old.mark.log) to.now.base to.now.new to.now.change.now }
     requires left { All (λ at. IsDropped (drawn seat.old.mark.log) (stamp_of to.now.base) (stamp_of to.now.new)

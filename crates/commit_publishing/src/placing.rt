@@ -6,7 +6,7 @@ ghost use Rattle.group_history.specs.declared.refs.Ref.{Ref as Reference};
 ghost use Rattle.group_history.specs.declared.refusals.Refusal.TheVariants as refusal;
 ghost use Rattle.head_word.specs.Books.{next_stamp, drawn};
 ghost use Rattle.head_word.specs.Marks.{others};
-ghost use Rattle.map_chunks.specs.Drafts.{AreOrdered, IsLate};
+ghost use Rattle.map_chunks.specs.Drafts.{AreChildrenBelow, IsLate};
 ghost use Rattle.chunk_slots.specs.Contents.{IsContent};
 ghost use Rattle.reader_claims.specs.declared.view.View.{View};
 ghost use Rattle.reader_claims.specs.Lists.{In};
@@ -19,9 +19,9 @@ ghost use Rattle.linearized.specs.Answered.{own_moves, is_resource_refusal};
 ghost use Rattle.commit_graph.specs.Seats.{IsSeatOf, IsSameSeat, StaysHeld};
 ghost use Rattle.commit_publishing.specs.Stamped.{AreFrom};
 ghost use Rattle.commit_publishing.specs.Placed.{AreDrawnBy, IsPlaced, FoundNoneFor, LieBelow};
-ghost use Rattle.commit_publishing.specs.Retiring.{AreFreed, GivesOneUp, drafted};
-ghost use Rattle.commit_publishing.specs.Inside.Stacks.{AreBelow, HasTaken, StayBelow, Uses, UsesMore};
-ghost use Rattle.commit_publishing.specs.Inside.Steps.{AreDrawn, AddsOne, MayRefuse, Steps};
+ghost use Rattle.commit_publishing.specs.Retiring.{AreFreed, GivesOneUp, draft_deeds};
+ghost use Rattle.commit_publishing.specs.Inside.Stacks.{AreLower, HasTaken, StayBelow, Uses, UsesMore};
+ghost use Rattle.commit_publishing.specs.Inside.Steps.{AreDrawn, AddsOne, MayRefusePlace, StepsOn};
 
 use crate::drawing::draw;
 use crate::retiring::retire_all;
@@ -63,9 +63,9 @@ fn place_one<M: Means, S: Store<M>>(
     ensures placed { OnOk result ((at : Reference) × (refs.new.items ≡ refs.old.items ++ at ∷ [])
         × (stamp_of at ≡ to.now.first + length refs.old.items) × (S.reused → slot_of at ≡ slot)) }
     ensures settled { S.reused → OnOk result (S.view seat.new ≡ with_settled (S.view seat.old) slot) }
-    ensures steps { S.reused → Steps (S.view seat.old) (S.view seat.new) }
+    ensures steps { S.reused → StepsOn (S.view seat.old) (S.view seat.new) }
     ensures same { OnErr result ((refs.new.items ≡ refs.old.items) × (seat.new ≡ seat.old)) }
-    ensures err { IfErr result (MayRefuse S.reused) }
+    ensures err { IfErr result (MayRefusePlace S.reused) }
     ensures past { IfErr result (λ e. e ≡ refusal.Full → max_slots ≤ to.now.first + length refs.old.items) }
 {
     let stamp = to.first + refs.len() as u64;
@@ -100,8 +100,8 @@ fn place_next<M: Means, S: Store<M>>(
     ensures back { S.reused → OnErr result ((back : List ℕ)
         × UsesMore (S.view seat.old) refs.old.items (S.view seat.new) refs.new.items back) }
     ensures within { S.reused → StayBelow slots.old.items refs.old.items slots.new.items refs.new.items }
-    ensures steps { S.reused → Steps (S.view seat.old) (S.view seat.new) }
-    ensures err { IfErr result (MayRefuse S.reused) }
+    ensures steps { S.reused → StepsOn (S.view seat.old) (S.view seat.new) }
+    ensures err { IfErr result (MayRefusePlace S.reused) }
     ensures past { IfErr result (λ e. e ≡ refusal.Full → max_slots ≤ to.now.first + length refs.old.items) }
 {
     let slot = pop(slots);
@@ -126,7 +126,7 @@ fn place_each<M: Means, S: Store<M>>(
     requires taken { S.reused → HasTaken (S.view seat.old) slots.old.items }
     requires refs { refs.old.items ≡ [] }
     requires room { to.now.first + length nodes.items < stamps }
-    requires order { AreOrdered to.now.from nodes.items }
+    requires order { AreChildrenBelow to.now.from nodes.items }
     requires drawn { AreDrawn to.now.from to.now.first nodes.items (drawn to.now.mark.now.log) }
     ensures home { S.home seat.new ≡ S.serves to.now.store.now }
     ensures stamps { AreFrom to.now.first refs.new.items }
@@ -136,9 +136,9 @@ fn place_each<M: Means, S: Store<M>>(
     ensures used { S.reused → OnOk result (Uses (S.view seat.old) (map slot_of refs.new.items) [] (S.view seat.new)) }
     ensures back { S.reused → OnErr result ((back : List ℕ)
         × Uses (S.view seat.old) (map slot_of refs.new.items) back (S.view seat.new)) }
-    ensures within { S.reused → (end : ℕ) → AreBelow end slots.old.items → LieBelow end refs.new.items }
-    ensures steps { S.reused → Steps (S.view seat.old) (S.view seat.new) }
-    ensures err { IfErr result (MayRefuse S.reused) }
+    ensures within { S.reused → (end : ℕ) → AreLower end slots.old.items → LieBelow end refs.new.items }
+    ensures steps { S.reused → StepsOn (S.view seat.old) (S.view seat.new) }
+    ensures err { IfErr result (MayRefusePlace S.reused) }
     ensures past { IfErr result (λ e. e ≡ refusal.Full → max_slots ≤ to.now.first + length nodes.items) }
 {
     for node in nodes {
@@ -160,7 +160,7 @@ fn place_all<M: Means, S: Store<M>>(
     requires taken { S.reused → HasTaken (S.view seat.old) slots.old.items }
     requires refs { refs.old.items ≡ [] }
     requires room { to.now.first + length nodes.items < stamps }
-    requires order { AreOrdered to.now.from nodes.items }
+    requires order { AreChildrenBelow to.now.from nodes.items }
     requires drawn { AreDrawn to.now.from to.now.first nodes.items (drawn to.now.mark.now.log) }
     ensures home { S.home seat.new ≡ S.serves to.now.store.now }
     ensures stamps { AreFrom to.now.first refs.new.items }
@@ -170,9 +170,9 @@ fn place_all<M: Means, S: Store<M>>(
     ensures used { S.reused → OnOk result (Uses (S.view seat.old) (map slot_of refs.new.items) [] (S.view seat.new)) }
     ensures back { S.reused → OnErr result ((back : List ℕ)
         × Uses (S.view seat.old) (map slot_of refs.new.items) back (S.view seat.new)) }
-    ensures within { S.reused → (end : ℕ) → AreBelow end slots.old.items → LieBelow end refs.new.items }
-    ensures steps { S.reused → Steps (S.view seat.old) (S.view seat.new) }
-    ensures err { IfErr result (MayRefuse S.reused) }
+    ensures within { S.reused → (end : ℕ) → AreLower end slots.old.items → LieBelow end refs.new.items }
+    ensures steps { S.reused → StepsOn (S.view seat.old) (S.view seat.new) }
+    ensures err { IfErr result (MayRefusePlace S.reused) }
     ensures past { IfErr result (λ e. e ≡ refusal.Full → max_slots ≤ to.now.first + length nodes.items) }
 {
     refs.reserve_exact(nodes.len())?;
@@ -190,7 +190,7 @@ fn give_up<M: Means, S: Slots<M>>(store: &S, seat: &mut S::Seat, slots: Vec<u32>
         × AreFreed (S.serves store.now).sizes.slots (S.view seat.new).reached (map slot_of refs.items)
         (map deed.withdrew (reverse withdrawn) ++ (map deed.settled (reverse (map slot_of refs.items)) ++ v.deeds))
         (S.view seat.new).deeds }
-    ensures steps { S.reused → Steps (S.view seat.old) (S.view seat.new) }
+    ensures steps { S.reused → StepsOn (S.view seat.old) (S.view seat.new) }
 {
     withdraw_all::<M, S>(store, seat, slots);
     retire_all::<M, S>(store, seat, &refs);
@@ -208,22 +208,22 @@ fn place_drawn<M: Means, S: Store<M>>(
     requires slots { length slots.items ≡ length nodes.items }
     requires taken { S.reused → HasTaken (S.view seat.old) slots.items }
     requires room { to.now.first + length nodes.items < stamps }
-    requires order { AreOrdered to.now.from nodes.items }
+    requires order { AreChildrenBelow to.now.from nodes.items }
     requires drawn { AreDrawn to.now.from to.now.first nodes.items (drawn to.now.mark.now.log) }
     ensures home { S.home seat.new ≡ S.serves to.now.store.now }
     ensures stamps { IfOk result (λ refs. AreFrom to.now.first refs.items) }
     ensures count { IfOk result (λ refs. length refs.items ≡ length nodes.items) }
     ensures none { S.reused → (S.view seat.new).taken ≡ [] }
     ensures used { S.reused → (xs : List Deed) → (S.view seat.old).deeds ≡ map deed.took (S.view seat.old).taken ++ xs
-        → IfOk result (λ refs. (S.view seat.new).deeds ≡ drafted (map slot_of refs.items) [] xs) }
-    ensures within { S.reused → (end : ℕ) → AreBelow end slots.items
+        → IfOk result (λ refs. (S.view seat.new).deeds ≡ draft_deeds (map slot_of refs.items) [] xs) }
+    ensures within { S.reused → (end : ℕ) → AreLower end slots.items
         → IfOk result (λ refs. LieBelow end refs.items) }
     ensures given { S.reused → (xs : List Deed) → (S.view seat.old).deeds ≡ map deed.took (S.view seat.old).taken ++ xs
         → OnErr result ((settled withdrawn : List ℕ) × ((S.view seat.old).taken ≡ settled ++ withdrawn)
         × AreFreed (S.serves to.now.store.now).sizes.slots (S.view seat.new).reached settled
-        (drafted settled withdrawn xs) (S.view seat.new).deeds) }
-    ensures steps { S.reused → Steps (S.view seat.old) (S.view seat.new) }
-    ensures err { IfErr result (MayRefuse S.reused) }
+        (draft_deeds settled withdrawn xs) (S.view seat.new).deeds) }
+    ensures steps { S.reused → StepsOn (S.view seat.old) (S.view seat.new) }
+    ensures err { IfErr result (MayRefusePlace S.reused) }
     ensures past { IfErr result (λ e. e ≡ refusal.Full → max_slots ≤ to.now.first + length nodes.items) }
 {
     let mut slots = slots;
@@ -259,14 +259,14 @@ fn place_taken<M: Means, S: Store<M>>(
     ensures drawn { IfOk result (λ refs. AreDrawnBy seat.old.mark seat.new.mark refs.items) }
     ensures none { S.reused → seat.new.view.taken ≡ [] }
     ensures used { S.reused → (xs : List Deed) → seat.old.view.deeds ≡ map deed.took seat.old.view.taken ++ xs
-        → IfOk result (λ refs. seat.new.view.deeds ≡ drafted (map slot_of refs.items) [] xs) }
-    ensures within { S.reused → (end : ℕ) → AreBelow end slots.items
+        → IfOk result (λ refs. seat.new.view.deeds ≡ draft_deeds (map slot_of refs.items) [] xs) }
+    ensures within { S.reused → (end : ℕ) → AreLower end slots.items
         → IfOk result (λ refs. LieBelow end refs.items) }
     ensures given { S.reused → (xs : List Deed) (end : ℕ)
         → seat.old.view.deeds ≡ map deed.took seat.old.view.taken ++ xs
-        → AreBelow end slots.items → OnErr result (GivesOneUp shared.now.table.sizes.slots end (length draft.nodes) xs
+        → AreLower end slots.items → OnErr result (GivesOneUp shared.now.table.sizes.slots end (length draft.nodes) xs
         seat.old seat.new) }
-    ensures steps { S.reused → Steps seat.old.view seat.new.view }
+    ensures steps { S.reused → StepsOn seat.old.view seat.new.view }
     ensures moved { IfErr result
         (λ e. e ≡ refusal.Moved → others seat.old.mark + max 1 tries ≤ others seat.new.mark) }
     ensures stamps { IfErr result
@@ -274,7 +274,7 @@ fn place_taken<M: Means, S: Store<M>>(
     ensures late { IfErr result (λ e. e ≡ refusal.Stamps → IsLate (next_stamp seat.new.mark.log)) }
     ensures past { IfErr result (λ e. e ≡ refusal.Full → max_slots ≤ next_stamp seat.new.mark.log) }
     ensures err { IfErr result
-        (λ e. (e ≡ refusal.Moved) ⊎ ((e ≡ refusal.Stamps) ⊎ MayRefuse S.reused e)) }
+        (λ e. (e ≡ refusal.Moved) ⊎ ((e ≡ refusal.Stamps) ⊎ MayRefusePlace S.reused e)) }
 {
     let from = draft.first();
     match draw(&shared.head, &mut seat.mark, from, draft.nodes(), tries) {
@@ -322,7 +322,7 @@ pub fn place_draft<M: Means, S: Store<M>>(
     ensures none { S.reused → seat.new.view.taken ≡ [] }
     ensures held { S.reused → StaysHeld seat.old.view seat.new.view }
     ensures drafted { S.reused → IfOk result
-        (λ refs. seat.new.view.deeds ≡ drafted (map slot_of refs.items) [] seat.old.view.deeds) }
+        (λ refs. seat.new.view.deeds ≡ draft_deeds (map slot_of refs.items) [] seat.old.view.deeds) }
     ensures within { S.reused → IfOk result (λ refs. LieBelow (kind_end shared.now.table.sizes kind) refs.items) }
     ensures given { S.reused → OnErr result (GivesOneUp shared.now.table.sizes.slots
         (kind_end shared.now.table.sizes kind) (length draft.nodes) seat.old.view.deeds seat.old seat.new) }

@@ -3,7 +3,7 @@ ghost use Rattle.std.specs.Prelude.{◌≡◌, [], map};
 ghost use Rattle.group_history.specs.Refs.{slot_of};
 ghost use Rattle.chunk_slots.specs.Seats.{MayRetire};
 ghost use Rattle.commit_publishing.specs.Retiring.{AreFreed, AreLetGo};
-ghost use Rattle.commit_publishing.specs.Inside.Steps.{Steps};
+ghost use Rattle.commit_publishing.specs.Inside.Steps.{StepsOn};
 
 use chunk_slots::Slots;
 use group_history::{Means, Ref};
@@ -15,7 +15,7 @@ fn retire_at<M: Means, S: Slots<M>>(store: &S, seat: &mut S::Seat, refs: &[Ref],
     requires none { S.reused → (S.view seat.old).taken ≡ [] }
     ensures home { S.home seat.new ≡ S.serves store.now }
     ensures none { S.reused → (S.view seat.new).taken ≡ [] }
-    ensures steps { S.reused → Steps (S.view seat.old) (S.view seat.new) }
+    ensures steps { S.reused → StepsOn (S.view seat.old) (S.view seat.new) }
     ensures retired { S.reused → AreLetGo (S.serves store.now).sizes.slots r (map slot_of refs.now)
         (S.view seat.old).deeds (S.view seat.new).deeds }
 {
@@ -31,7 +31,7 @@ pub(crate) fn retire_all<M: Means, S: Slots<M>>(store: &S, seat: &mut S::Seat, r
     requires none { S.reused → (S.view seat.old).taken ≡ [] }
     ensures home { S.home seat.new ≡ S.serves store.now }
     ensures none { S.reused → (S.view seat.new).taken ≡ [] }
-    ensures steps { S.reused → Steps (S.view seat.old) (S.view seat.new) }
+    ensures steps { S.reused → StepsOn (S.view seat.old) (S.view seat.new) }
     ensures freed { S.reused → AreFreed (S.serves store.now).sizes.slots (S.view seat.new).reached
         (map slot_of refs.now)
         (S.view seat.old).deeds (S.view seat.new).deeds }

@@ -8,9 +8,9 @@ ghost use Rattle.reader_claims.specs.declared.view.View.{View};
 ghost use Rattle.reader_claims.specs.Passes.{FindsNone, OnlyTakes};
 ghost use Rattle.reader_claims.specs.Seats.{kind_end};
 ghost use Rattle.commit_publishing.specs.Placed.{FoundNoneFor};
-ghost use Rattle.commit_publishing.specs.Retiring.{drafted};
-ghost use Rattle.commit_publishing.specs.Inside.Stacks.{AreBelow, HasTaken, IsButWithdrawn, PassedOver, Uses};
-ghost use Rattle.commit_publishing.specs.Inside.Steps.{Steps};
+ghost use Rattle.commit_publishing.specs.Retiring.{draft_deeds};
+ghost use Rattle.commit_publishing.specs.Inside.Stacks.{AreLower, HasTaken, IsButWithdrawn, PassedOver, Uses};
+ghost use Rattle.commit_publishing.specs.Inside.Steps.{StepsOn};
 
 use chunk_slots::{Slots, Store};
 use group_history::{Means, Refusal};
@@ -25,7 +25,7 @@ pub(crate) fn withdraw_all<M: Means, S: Slots<M>>(store: &S, seat: &mut S::Seat,
     ensures none { S.reused → (S.view seat.new).taken ≡ [] }
     ensures used { S.reused → Uses (S.view seat.old) [] (S.view seat.old).taken (S.view seat.new) }
     ensures kept { S.reused → IsButWithdrawn (S.view seat.old) (S.view seat.new) }
-    ensures steps { S.reused → Steps (S.view seat.old) (S.view seat.new) }
+    ensures steps { S.reused → StepsOn (S.view seat.old) (S.view seat.new) }
 {
     let mut slots = slots;
     while let Some(slot) = slots.pop() {
@@ -57,13 +57,13 @@ fn take_next<M: Means, S: Store<M>>(
     ensures taken { S.reused → HasTaken (S.view seat.new) slots.new.items }
     ensures more { OnOk result (length slots.new.items ≡ length slots.old.items + 1) }
     ensures same { OnErr result (slots.new.items ≡ slots.old.items) }
-    ensures within { S.reused → AreBelow (kind_end (S.serves store.now).sizes kind) slots.old.items
-        → AreBelow (kind_end (S.serves store.now).sizes kind) slots.new.items }
+    ensures within { S.reused → AreLower (kind_end (S.serves store.now).sizes kind) slots.old.items
+        → AreLower (kind_end (S.serves store.now).sizes kind) slots.new.items }
     ensures took { S.reused → OnOk result ((x : ℕ) × OnlyTakes (S.view seat.old) (S.view seat.new) (x ∷ [])) }
     ensures used { S.reused → OnErr result ((w : View) × (back : List ℕ) × (length back ≤ 1)
-        × AreBelow (kind_end (S.serves store.now).sizes kind) back
+        × AreLower (kind_end (S.serves store.now).sizes kind) back
         × OnlyTakes (S.view seat.old) w back × Uses w [] back (S.view seat.new)) }
-    ensures steps { S.reused → Steps (S.view seat.old) (S.view seat.new) }
+    ensures steps { S.reused → StepsOn (S.view seat.old) (S.view seat.new) }
     ensures full { S.reused → IfErr result
         (λ e. e ≡ refusal.Full → FindsNone (S.view seat.old) (S.view seat.new)
         (kind_end (S.serves store.now).sizes kind)) }
@@ -96,13 +96,13 @@ fn take_more<M: Means, S: Store<M>>(
     ensures taken { S.reused → HasTaken (S.view seat.new) slots.new.items }
     ensures more { OnOk result (length slots.new.items ≡ length slots.old.items + count) }
     ensures few { OnErr result (length slots.new.items < length slots.old.items + count) }
-    ensures within { S.reused → AreBelow (kind_end (S.serves store.now).sizes kind) slots.old.items
-        → AreBelow (kind_end (S.serves store.now).sizes kind) slots.new.items }
+    ensures within { S.reused → AreLower (kind_end (S.serves store.now).sizes kind) slots.old.items
+        → AreLower (kind_end (S.serves store.now).sizes kind) slots.new.items }
     ensures took { S.reused → OnOk result ((taken : List ℕ) × OnlyTakes (S.view seat.old) (S.view seat.new) taken) }
     ensures used { S.reused → OnErr result ((w : View) × (taken back : List ℕ) × (length back ≤ 1)
-        × AreBelow (kind_end (S.serves store.now).sizes kind) back
+        × AreLower (kind_end (S.serves store.now).sizes kind) back
         × OnlyTakes (S.view seat.old) w taken × Uses w [] back (S.view seat.new)) }
-    ensures steps { S.reused → Steps (S.view seat.old) (S.view seat.new) }
+    ensures steps { S.reused → StepsOn (S.view seat.old) (S.view seat.new) }
     ensures full { S.reused → IfErr result
         (λ e. e ≡ refusal.Full → PassedOver (S.view seat.old) (S.view seat.new)
         (kind_end (S.serves store.now).sizes kind)) }
@@ -131,13 +131,13 @@ pub(crate) fn take_all<M: Means, S: Store<M>>(
     ensures home { S.home seat.new ≡ S.serves store.now }
     ensures count { IfOk result (λ slots. length slots.items ≡ count) }
     ensures taken { S.reused → IfOk result (λ slots. HasTaken (S.view seat.new) slots.items) }
-    ensures within { S.reused → IfOk result (λ slots. AreBelow (kind_end (S.serves store.now).sizes kind) slots.items) }
+    ensures within { S.reused → IfOk result (λ slots. AreLower (kind_end (S.serves store.now).sizes kind) slots.items) }
     ensures none { S.reused → OnErr result ((S.view seat.new).taken ≡ []) }
     ensures took { S.reused → OnOk result (OnlyTakes (S.view seat.old) (S.view seat.new) (S.view seat.new).taken) }
     ensures given { S.reused → OnErr result ((back : List ℕ) × (length back ≤ count)
-        × AreBelow (kind_end (S.serves store.now).sizes kind) back
-        × ((S.view seat.new).deeds ≡ drafted [] back (S.view seat.old).deeds)) }
-    ensures steps { S.reused → Steps (S.view seat.old) (S.view seat.new) }
+        × AreLower (kind_end (S.serves store.now).sizes kind) back
+        × ((S.view seat.new).deeds ≡ draft_deeds [] back (S.view seat.old).deeds)) }
+    ensures steps { S.reused → StepsOn (S.view seat.old) (S.view seat.new) }
     ensures full { S.reused → IfErr result
         (λ e. e ≡ refusal.Full → FoundNoneFor (S.view seat.old) (S.view seat.new)
         (kind_end (S.serves store.now).sizes kind) count) }

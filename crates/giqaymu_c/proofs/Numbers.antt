@@ -21,7 +21,8 @@ use Rattle.client_desk.specs.declared.faults.CallFault.{CallFault}
 use Rattle.client_desk.specs.declared.faults.CallFault.TheVariants as fault
 use Rattle.client_desk.specs.declared.outcomes.Outcome.{Outcome}
 use Rattle.client_desk.specs.declared.outcomes.Outcome.TheVariants as outcome
-use Rattle.host_places.specs.Asking.{◌>>=◌, or_bad_uuid, text_said, uuid_in, uuid_given}
+use Rattle.group_history.specs.Answers.{◌>>=◌}
+use Rattle.host_places.specs.Asking.{or_bad_uuid, text_said, uuid_in, uuid_given}
 use Rattle.group_history.specs.Refusals.{refusal_number, refusal_place}
 use Rattle.group_history.proofs.Numbered.{refusal_place_low}
 use Rattle.client_desk.specs.Numbers.{fault_number, fault_place, outcome_number}

@@ -29,12 +29,12 @@ use Rattle.std_alloc.specs.Box.Ownership.{box_owns}
 use Rattle.std_heap.specs.contracts.Global as Heap
 use Rattle.std_heap.specs.contracts.GlobalAllocator.TheImpl.{ghosts}
 use Rattle.std_heap.proofs.Global.TheLaws as heap
-use Rattle.giqaymu_c.specs.contracts.parts.Parts as parts
+use Rattle.giqaymu_c.specs.contracts.parts.BoxParts as parts
 use Rattle.group_history.specs.Map.{Bytes}
 use Rattle.giqaymu_c.specs.Own.{Run}
 use Rattle.giqaymu_c.specs.Spots.{SpotState}
 use Rattle.giqaymu_c.specs.contracts.handle.Handle as handle
-use Rattle.giqaymu_c.specs.contracts.held.Held as held_row
+use Rattle.giqaymu_c.specs.contracts.held.MaybeBox as held_row
 use Rattle.giqaymu_c.specs.Owned.{place_owns, held_owns}
 
 abbrev pub both : Val → Val → Val
@@ -72,19 +72,19 @@ pub both_good : (P Q : RattleType) (v w : Val) → Good (layout P) v → Good (l
 both_good P Q v w g h = (and_tt (has_ty (layout P) v) (has_ty (layout Q) w) g.0 h.0, (g.1, (h.1, tt)))
 
 module _ (R : RattleType) where
-  abbrev pub Parts : RattleType
-  Parts = parts.the_row R Heap.the_row ghosts
+  abbrev pub BoxParts : RattleType
+  BoxParts = parts.the_row R Heap.the_row ghosts
 
   pub parts_good : (b o : ℕ) (h : Val) → Good (layout Heap.the_row) h → T (has_ty (layout Heap.the_row) h && true)
       × WT (both (vptr b o) h)
   parts_good b o h fits = (and_last (has_ty (layout Heap.the_row) h) fits.0, (tt, (fits.1, tt)))
 
   module _ {M : Type 1} {𝓤 : Ura M} {𝓛 : Logic 𝓤} {K : Type 0} {Γ : List (Item 𝓤)} {G : Goal 𝓤 𝓛.H} where
-    pub parts_out : K → (d : Parts.Denot) (vs : List Val)
+    pub parts_out : K → (d : BoxParts.Denot) (vs : List Val)
         → ((b o : ℕ) (h : Val) → d.ptr ≡ block_ptr b o → vs ≡ both (vptr b o) h ∷ [] → Good (layout Heap.the_row) h
         → Seq K 𝓛 (‵ (box_owns (ghosts.dealloc_token d.alloc) R (block_ptr b o) d.value)
         ∷ ‵ ((Heap.the_row).own_val d.alloc (h ∷ [])) ∷ Γ) G)
-        → Seq K 𝓛 (‵ (Parts.own_val d vs) ∷ Γ) G
+        → Seq K 𝓛 (‵ (BoxParts.own_val d vs) ∷ Γ) G
     parts_out t d vs k =
         fsplit t $ fpick t (λ vss. fsplit t $ feq_l t (λ ev. fsplit t $ feq_l t (λ ep. fsplit t $
         handle_tells al t d.alloc vss.1.0 (λ h ea fits. move t (1 ∷ []) $ drop t $ move t (1 ∷ []) $
@@ -95,7 +95,7 @@ module _ (R : RattleType) where
         (subst (λ (ps : List Val). vs ≡ vstruct (of_list (ps ++ (vss.1.0 ++ []))) ∷ []) ep ev))) fits)))))
 
     pub parts_in : K → (b o : ℕ) (h : Val) (a : (Heap.the_row).Denot) (x : R.Denot)
-        → Step K 𝓛 (‵ (Parts.own_val (record { ptr = block_ptr b o; alloc = a; value = x }) (both (vptr b o) h ∷ []))
+        → Step K 𝓛 (‵ (BoxParts.own_val (record { ptr = block_ptr b o; alloc = a; value = x }) (both (vptr b o) h ∷ []))
         ∷ Γ) G (‵ (box_owns (ghosts.dealloc_token a) R (block_ptr b o) x) ∷ ‵ ((Heap.the_row).own_val a (h ∷ []))
         ∷ Γ) G
     parts_in t b o h a x = step (λ s. let v : Val = both (vptr b o) h in
@@ -130,10 +130,10 @@ abbrev pub marked : Ptr → ℕ → Val
 marked p k = both (ptr_val p) (vint w64 k)
 
 module _ (R : RattleType) where
-  abbrev pub Held : RattleType
-  Held = held_row.the_row R
+  abbrev pub MaybeBox : RattleType
+  MaybeBox = held_row.the_row R
 
-  pub marked_good : (p : Ptr) (k : ℕ) → k < 2 ^ 64 → Good (layout Held) (marked p k)
+  pub marked_good : (p : Ptr) (k : ℕ) → k < 2 ^ 64 → Good (layout MaybeBox) (marked p k)
   marked_good p k fits = (
     and_tt (has_ty mir.Syntax.ty_ptr (ptr_val p)) (has_ty (mir.Syntax.ty_int w64) (vint w64 k)) (ptr_good p).0 tt,
     ((ptr_good p).1, (record { fits = fits }, tt)),
@@ -141,7 +141,7 @@ module _ (R : RattleType) where
 
   module _ {M : Type 1} {𝓤 : Ura M} {𝓛 : Logic 𝓤} {K : Type 0} {Γ : List (Item 𝓤)} {G : Goal 𝓤 𝓛.H} where
     pub held_in : K → (p : Ptr) (k : ℕ) (v : Option R.Denot) → k < 2 ^ 64
-        → Step K 𝓛 (‵ (Held.own_val (record { at = p; is_open = k; value = v }) (marked p k ∷ [])) ∷ Γ) G
+        → Step K 𝓛 (‵ (MaybeBox.own_val (record { at = p; is_open = k; value = v }) (marked p k ∷ [])) ∷ Γ) G
         (‵ (held_owns R k p v) ∷ Γ) G
     held_in t p k v fits = step (λ s. let w : Val = marked p k in
         nothing t $ owned t u64 (Is u64) (uint_Makes 𝓛 w64) k (vint w64 k ∷ []) (refl, fits) $ fjoin t $
@@ -150,9 +150,9 @@ module _ (R : RattleType) where
         fpack t (Valss (RawPtr ∷ u64 ∷ [])) (within (shape (held_row.the_type R)) (p, (k, tt)) (w ∷ []))
         (ptr_val p ∷ [], (vint w64 k ∷ [], tt)) $ fjoin t $ s)
 
-    pub held_out : K → (d : Held.Denot) (vs : List Val)
+    pub held_out : K → (d : MaybeBox.Denot) (vs : List Val)
         → (d.is_open < 2 ^ 64 → vs ≡ marked d.at d.is_open ∷ []
-        → Seq K 𝓛 (‵ (held_owns R d.is_open d.at d.value) ∷ Γ) G) → Seq K 𝓛 (‵ (Held.own_val d vs) ∷ Γ) G
+        → Seq K 𝓛 (‵ (held_owns R d.is_open d.at d.value) ∷ Γ) G) → Seq K 𝓛 (‵ (MaybeBox.own_val d vs) ∷ Γ) G
     held_out t d vs k =
         fsplit t $ fpick t (λ vss. fsplit t $ feq_l t (λ ev. fsplit t $ feq_l t (λ ep. fsplit t $ fsplit t $
         feq_l t (λ en. flt_l t (λ fits. drop t $ k fits

@@ -1,19 +1,16 @@
 -- Codes of the ghost data that a place has. There is nothing to believe here.
 use Rattle.std.specs.Prelude.{ℕ, ◌≡◌, ◌⊎◌, List, Option, refl}
 use mathlib.Core.Logic.{inl, inr}
-use Rattle.std.specs.Coded.{Coded, code_by, codes, coded_list, coded_ℕ}
-use Rattle.std.specs.FinMap as finite
+use Rattle.std.specs.Coded.{Coded, code_by, codes}
 use Rattle.group_history.specs.contracts.changes.Change as change
 use Rattle.group_history.specs.contracts.mutations.Mutation as mutation
 use Rattle.group_history.specs.contracts.mutations.Reason as reason
 use Rattle.group_history.specs.Map.{Entries}
 use Rattle.group_history.specs.Meaning.{Meaning, unknown, refuses, done}
+use Rattle.group_history.specs.State.{entries_coded}
 use Rattle.head_word.specs.contracts.entry.Entry as entry
 use Rattle.giqaymu_c.specs.Own.{Run}
 use Rattle.giqaymu_c.specs.Spots.{SpotState}
-
-entries_coded : Coded Entries
-entries_coded = finite.code (coded_list coded_ℕ) (coded_list coded_ℕ)
 
 pub state_coded : Coded SpotState
 state_coded =

@@ -13,7 +13,7 @@ use Rattle.host_places.specs.Opening.{IsFreshPlace, layout_said}
 use Rattle.rebase.specs.Clients.{Grouped}
 use Rattle.rebase.specs.Configs.{Layout}
 use Rattle.rule_mutators.specs.Faults.{fault_told, laid_over}
-use Rattle.giqaymu_c.specs.declared.exports.Answer.{Answer}
+use Rattle.giqaymu_c.specs.declared.exports.CallAnswer.{CallAnswer}
 use Rattle.giqaymu_c.specs.declared.handle.Handle.{Handle}
 use Rattle.giqaymu_c.specs.declared.jobs.Grounds.{Grounds}
 use Rattle.host_places.specs.declared.numbered.Numbered.{Numbered}
@@ -23,7 +23,7 @@ use Rattle.giqaymu_c.specs.Own.{Run}
 use Rattle.giqaymu_c.specs.Spots.{SpotState}
 
 -- the number that is answered and what is written to `out` are those of a reply
-pub record IsTold (reply : JobReply) (number : ℤ) (out : Answer) : Type 0 where
+pub record IsTold (reply : JobReply) (number : ℤ) (out : CallAnswer) : Type 0 where
   pub number_is : number ≡ reply.number
   pub value_is : out.number ≡ reply.value
   pub code_is : out.code ≡ reply.code
@@ -39,7 +39,8 @@ pub record IsNumbered (call : Numbered) (what m n : ℕ) (a b : Bytes) : Type 0 
   pub b_is : call.b.now ≡ b
 
 -- is made
-pub record IsCalled (meant : Meant) (what m n : ℕ) (a b : Bytes) (before : Option SpotState) (number : ℤ) (out : Answer)
+pub record IsCalled (meant : Meant) (what m n : ℕ) (a b : Bytes) (before : Option SpotState) (number : ℤ)
+    (out : CallAnswer)
     (after : Option SpotState) : Type 0 where
   pub call : Numbered
   pub asked : IsNumbered call what m n a b

@@ -20,7 +20,7 @@ pub const VERSION: u32 = 10200;
 /// What a call answers beside its number: bytes that lie there until the place's next call, a number and a code.
 #[repr(C)]
 #[derive(Drop)]
-pub struct Answer {
+pub struct CallAnswer {
     pub at: *const u8,
     pub len: usize,
     pub number: u64,
@@ -67,7 +67,7 @@ pub extern "C" fn giq_call(
     n: u64,
     a: &[u8],
     b: &[u8],
-    out: &mut Answer,
+    out: &mut CallAnswer,
 ) -> i32
     requires { IfSome place.old.spot (IsToldByNumbers (meant_at place.old.text place.old.asks place.old.own) what m n) }
     ensures same { IsLike place.old place.new }
@@ -77,7 +77,7 @@ pub extern "C" fn giq_call(
     let call = Job::Call(Numbered { what, m, n, a, b });
     let (given, reply) = act_at(alloc, place, call);
     given.forget();
-    *out = Answer {
+    *out = CallAnswer {
         at: reply.at,
         len: reply.len,
         number: reply.value,

@@ -5,7 +5,7 @@ ghost use Rattle.giqaymu_c.specs.Codes.{runs_coded, spot_coded};
 ghost use Rattle.giqaymu_c.specs.Spots.{SpotState};
 ghost use Rattle.giqaymu_c.specs.Jobs.{Acts, IsFit, asks_for, meant_at, text_for};
 
-use crate::held::Held;
+use crate::held::MaybeBox;
 use crate::jobs::{Job, JobReply};
 use crate::spots::{OpenPlace, act_held};
 use std::alloc::Global;
@@ -66,17 +66,17 @@ pub(crate) fn act(handle: Handle, alloc: Global, job: Job<'_>) -> (Handle, Handl
         result.1.spot }
 {
     let Handle { at, is_open } = handle;
-    let held = Held {
+    let held = MaybeBox {
         at: at as *mut OpenPlace<Brand>,
         is_open,
     };
     let (first, second, reply) = act_held::<Brand>(held, alloc, job);
-    let Held { at, is_open } = first;
+    let MaybeBox { at, is_open } = first;
     let first = Handle {
         at: at as *mut u8,
         is_open,
     };
-    let Held { at, is_open } = second;
+    let MaybeBox { at, is_open } = second;
     let second = Handle {
         at: at as *mut u8,
         is_open,

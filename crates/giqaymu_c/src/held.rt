@@ -2,66 +2,66 @@
 ghost use Rattle.std.specs.Prelude.{◌≡◌, ◌⊎◌, ◌<◌, Some, None, Option, IsSome, option_map};
 ghost use Rattle.giqaymu_c.specs.Owned.{held_owns};
 
-use crate::parts::Parts;
+use crate::parts::BoxParts;
 use std::alloc::Global;
 use std::marker::Model;
 
 /// A box as its pointer, where the flag isn't 0; else nothing.
-pub struct Held<T> {
+pub struct MaybeBox<T> {
     pub(crate) at: *mut T,
     pub(crate) is_open: u64,
     pub ghost value: { Option T },
 }
 
-impl<T> Model for Held<T> {
+impl<T> Model for MaybeBox<T> {
     ghost also_owns = { λ h. held_owns T.row h.is_open h.at h.value };
 }
 
-impl<T> Held<T> {
+impl<T> MaybeBox<T> {
     /// Nothing.
-    pub(crate) fn none() -> Held<T>
+    pub(crate) fn none() -> MaybeBox<T>
         ensures { result.value ≡ None }
     {
-        Held {
+        MaybeBox {
             at: std::ptr::null_mut(),
             is_open: 0,
         }
     }
 
-    fn of_parts(parts: Parts<T, Global>) -> Held<T>
+    fn of_parts(parts: BoxParts<T, Global>) -> MaybeBox<T>
         ensures { result.value ≡ Some parts.value }
     {
-        let Parts { ptr, alloc: _ } = parts;
-        Held {
+        let BoxParts { ptr, alloc: _ } = parts;
+        MaybeBox {
             at: ptr,
             is_open: 1,
         }
     }
 
     // With a copy of the flag.
-    fn flag(self) -> (Held<T>, u64)
+    fn flag(self) -> (MaybeBox<T>, u64)
         ensures { (result.0.value ≡ self.value)
             × (((result.1 ≡ 0) × (self.value ≡ None)) ⊎ ((0 < result.1) × IsSome self.value)) }
     {
-        let Held { at, is_open } = self;
-        (Held { at, is_open }, is_open)
+        let MaybeBox { at, is_open } = self;
+        (MaybeBox { at, is_open }, is_open)
     }
 
-    fn into_parts(self, alloc: Global) -> Parts<T, Global>
+    fn into_parts(self, alloc: Global) -> BoxParts<T, Global>
         requires { IsSome self.value }
         ensures { self.value ≡ Some result.value }
     {
-        let Held { at, is_open: _ } = self;
-        Parts { ptr: at, alloc }
+        let MaybeBox { at, is_open: _ } = self;
+        BoxParts { ptr: at, alloc }
     }
 }
 
-impl<T: Drop> Held<T> {
+impl<T: Drop> MaybeBox<T> {
     /// The box of this.
-    pub(crate) fn of(value: Box<T, Global>) -> Held<T>
+    pub(crate) fn of(value: Box<T, Global>) -> MaybeBox<T>
         ensures { result.value ≡ Some value.value }
     {
-        Held::of_parts(Parts::of(value))
+        MaybeBox::of_parts(BoxParts::of(value))
     }
 
     /// The box that it is, where it is one.
@@ -80,6 +80,6 @@ impl<T: Drop> Held<T> {
     fn forget(self)
         requires { self.value ≡ None }
     {
-        let Held { at: _, is_open: _ } = self;
+        let MaybeBox { at: _, is_open: _ } = self;
     }
 }

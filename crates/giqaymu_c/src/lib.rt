@@ -23,5 +23,7 @@ mod jobs;
 mod parts;
 mod spots;
 
-pub use exports::{Answer, VERSION, giq_call, giq_close, giq_open, giq_rules_fault, giq_version};
+pub use exports::{
+    CallAnswer, VERSION, giq_call, giq_close, giq_open, giq_rules_fault, giq_version,
+};
 pub use handle::Handle;

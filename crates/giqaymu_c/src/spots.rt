@@ -6,7 +6,7 @@ ghost use Rattle.giqaymu_c.specs.Jobs.{Acts, Calls, Gives, HasCalled, HasGiven, 
 ghost use Rattle.giqaymu_c.specs.Jobs.{IsOpeningRefusal, IsRulesRefusal, IsToldAsMeant};
 ghost use Rattle.giqaymu_c.specs.Jobs.{OpensPlaces, RepliesAt, rules_given};
 
-use crate::held::Held;
+use crate::held::MaybeBox;
 use crate::jobs::{Grounds, Job, JobReply};
 use group_history::Refusal;
 use host_places::{
@@ -95,25 +95,25 @@ impl<B: NamesMutators> OpenPlace<B> {
     }
 
     // In a box.
-    fn boxed(self, alloc: Global) -> (Held<OpenPlace<B>>, JobReply)
+    fn boxed(self, alloc: Global) -> (MaybeBox<OpenPlace<B>>, JobReply)
         ensures { IsBoxed self result.1 result.0.value }
     {
         match Box::new(alloc, self) {
-            Ok(spot) => (Held::of(spot), JobReply::bare(Outcome::Done)),
+            Ok(spot) => (MaybeBox::of(spot), JobReply::bare(Outcome::Done)),
             Err(_) => (
-                Held::none(),
+                MaybeBox::none(),
                 JobReply::bare(Outcome::Refused(Refusal::NoMemory)),
             ),
         }
     }
 
-    fn give(&mut self, alloc: Global) -> (Held<OpenPlace<B>>, JobReply)
+    fn give(&mut self, alloc: Global) -> (MaybeBox<OpenPlace<B>>, JobReply)
         ensures { Gives self.old result.1 self.new result.0.value }
     {
         match self.next(alloc) {
             Some(spot) => spot.boxed(alloc),
             None => (
-                Held::none(),
+                MaybeBox::none(),
                 JobReply::bare(Outcome::Refused(Refusal::NoSeat)),
             ),
         }
@@ -147,55 +147,55 @@ impl<B: NamesMutators + Sync> OpenPlace<B> {
 fn open_held<B: NamesMutators + Sync>(
     alloc: Global,
     grounds: Grounds<'_>,
-) -> (Held<OpenPlace<B>>, JobReply)
+) -> (MaybeBox<OpenPlace<B>>, JobReply)
     requires { IsMeantBy grounds B.meant }
     ensures { HasOpened grounds.entry result.1 result.0.value }
 {
     match OpenPlace::<B>::open(alloc, grounds) {
         Ok(spot) => spot.boxed(alloc),
-        Err(outcome) => (Held::none(), JobReply::bare(outcome)),
+        Err(outcome) => (MaybeBox::none(), JobReply::bare(outcome)),
     }
 }
 
 fn call_held<B: NamesMutators + Sync>(
-    held: Held<OpenPlace<B>>,
+    held: MaybeBox<OpenPlace<B>>,
     alloc: Global,
     call: Numbered<'_>,
-) -> (Held<OpenPlace<B>>, JobReply)
+) -> (MaybeBox<OpenPlace<B>>, JobReply)
     requires { IfSome held.value (IsToldAsMeant B.meant call) }
     ensures { HasCalled B.meant call.entry held.value result.1 result.0.value }
 {
     let Some(mut spot) = held.into_box(alloc) else {
         return (
-            Held::none(),
+            MaybeBox::none(),
             JobReply::bare(Outcome::Faulty(CallFault::NoPlace)),
         );
     };
     let reply = spot.call(call);
-    (Held::of(spot), reply)
+    (MaybeBox::of(spot), reply)
 }
 
 fn give_held<B: NamesMutators + Sync>(
-    held: Held<OpenPlace<B>>,
+    held: MaybeBox<OpenPlace<B>>,
     alloc: Global,
-) -> (Held<OpenPlace<B>>, Held<OpenPlace<B>>, JobReply)
+) -> (MaybeBox<OpenPlace<B>>, MaybeBox<OpenPlace<B>>, JobReply)
     ensures { HasGiven held.value result.2 result.0.value result.1.value }
 {
     let Some(mut spot) = held.into_box(alloc) else {
         let reply = JobReply::bare(Outcome::Faulty(CallFault::NoPlace));
-        return (Held::none(), Held::none(), reply);
+        return (MaybeBox::none(), MaybeBox::none(), reply);
     };
     let (given, reply) = spot.give(alloc);
-    (Held::of(spot), given, reply)
+    (MaybeBox::of(spot), given, reply)
 }
 
 /// Does a job at a place. What comes second is the place that is given.
 #[inline(always)]
 pub(crate) fn act_held<B: NamesMutators + Sync>(
-    held: Held<OpenPlace<B>>,
+    held: MaybeBox<OpenPlace<B>>,
     alloc: Global,
     job: Job<'_>,
-) -> (Held<OpenPlace<B>>, Held<OpenPlace<B>>, JobReply)
+) -> (MaybeBox<OpenPlace<B>>, MaybeBox<OpenPlace<B>>, JobReply)
     requires { IsFit job B.meant held.value }
     ensures { Acts job.entry B.meant held.value result.2 result.0.value result.1.value }
 {
@@ -203,16 +203,20 @@ pub(crate) fn act_held<B: NamesMutators + Sync>(
         Job::Open(grounds) => {
             drop(held.into_box(alloc));
             let (held, reply) = open_held::<B>(alloc, grounds);
-            (held, Held::none(), reply)
+            (held, MaybeBox::none(), reply)
         }
         Job::Give => give_held(held, alloc),
         Job::Call(call) => {
             let (held, reply) = call_held(held, alloc, call);
-            (held, Held::none(), reply)
+            (held, MaybeBox::none(), reply)
         }
         Job::Close => {
             drop(held.into_box(alloc));
-            (Held::none(), Held::none(), JobReply::bare(Outcome::Done))
+            (
+                MaybeBox::none(),
+                MaybeBox::none(),
+                JobReply::bare(Outcome::Done),
+            )
         }
     }
 }

@@ -17,7 +17,7 @@ use Rattle.group_history.specs.Meaning.{Meanings}
 use Rattle.group_history.specs.State.{Ids, confirmed_id, ids_of, replayed, rebased}
 use Rattle.group_history.specs.Pulling.{overwritten, unconfirmed, left_pending, goes_back}
 use Rattle.group_history.specs.Ids.{AreConsecutive, IdsFollow}
-use Rattle.group_history.specs.Inside.Plain.{IsKept}
+use Rattle.group_history.specs.Inside.Plain.{IsSound}
 
 -- the greatest of n and the numbers that follow it
 pub greatest-AreConsecutive : (n : ℕ) (xs : List ℕ) → AreConsecutive n xs → fold max n xs ≡ n + length xs
@@ -215,19 +215,19 @@ new_follows =
 
 -- a new group keeps what it has to
 pub new_kept : (means : Meanings) (view pulled : Entries) (ids : Ids) (xs : List Mutation) → view ≡ finite.empty
-    → pulled ≡ finite.empty → ids ≡ finite.empty → xs ≡ [] → IsKept means view pulled ids xs
+    → pulled ≡ finite.empty → ids ≡ finite.empty → xs ≡ [] → IsSound means view pulled ids xs
 new_kept means view pulled ids xs v p i x =
-    subst (λ view. IsKept means view pulled ids xs) (sym v)
-    (subst (λ pulled. IsKept means finite.empty pulled ids xs) (sym p)
-    (subst (λ ids. IsKept means finite.empty finite.empty ids xs) (sym i)
-    (subst (λ xs. IsKept means finite.empty finite.empty finite.empty xs) (sym x)
+    subst (λ view. IsSound means view pulled ids xs) (sym v)
+    (subst (λ pulled. IsSound means finite.empty pulled ids xs) (sym p)
+    (subst (λ ids. IsSound means finite.empty finite.empty ids xs) (sym i)
+    (subst (λ xs. IsSound means finite.empty finite.empty finite.empty xs) (sym x)
     (record { replay = refl; ids = new_follows }))))
 
 -- and so does one after a pull
 pub pull_kept : (means : Meanings) (view pulled : Entries) (old ids : Ids) (changes : List Confirmed)
     (xs ys : List Mutation) → IdsFollow old xs → goes_back old changes ≡ false → All (λ c. c.id ≤ 2 ^ 52) changes
     → view ≡ replayed means pulled ys → ids ≡ overwritten old changes → ys ≡ left_pending ids xs
-    → IsKept means view pulled ids ys
+    → IsSound means view pulled ids ys
 pull_kept means view pulled old ids changes xs ys ok forward small v i y = record {
   replay = v;
   ids = subst (IdsFollow ids) (sym y) (subst (λ ids. IdsFollow ids (left_pending ids xs)) (sym i)

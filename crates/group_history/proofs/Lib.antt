@@ -1,5 +1,6 @@
 pub mod Lists
 pub mod TextMaps
+pub mod Places
 pub mod Replays
 pub mod Records
 pub mod IdLemmas
@@ -13,3 +14,4 @@ mod InPlace
 pub mod Fronts
 pub mod Numbered
 pub mod Rising
+pub mod Telling

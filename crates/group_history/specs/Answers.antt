@@ -18,7 +18,8 @@ abbrev pub AnswersOrNoMemory : {X : Type 0} → Result X Refusal → Result X Re
 AnswersOrNoMemory (Ok x) right = right ≡ Ok x
 AnswersOrNoMemory (Err e) right = Refuses e right
 
+-- what follows, where there was no error; else the first one
 infixl 10 ◌>>=◌
-abbrev pub ◌>>=◌ : {A B : Type 0} → Result A Refusal → (A → Result B Refusal) → Result B Refusal
+abbrev pub ◌>>=◌ : {A B E : Type 0} → Result A E → (A → Result B E) → Result B E
 (Ok x) >>= f = f x
 (Err e) >>= f = Err e

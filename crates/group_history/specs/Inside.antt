@@ -2,3 +2,4 @@
 pub mod Fronts
 pub mod Plain
 pub mod Texts
+pub mod TextRows

@@ -20,7 +20,8 @@ renamed_chunk f (Inner kids) = Inner (map (λ e. (e.0, f e.1)) kids)
 
 abbrev pub renamed_kind : {A B : Type 0} → (A → B) → CommitKind A → CommitKind B
 renamed_kind f (Snapshot s) = Snapshot s
-renamed_kind f (Over o) = Over (record { basis = f o.basis; snapshot = f o.snapshot; step = o.step })
+renamed_kind f (Over o) =
+    Over (record { basis = f o.basis; snapshot = f o.snapshot; step = o.step; told = o.told })
 
 abbrev pub renamed_commit : {A B : Type 0} → (A → B) → Commit A → Commit B
 renamed_commit f c = record { root = f c.root; kind = renamed_kind f c.kind }

@@ -1,9 +1,9 @@
 -- What contents spell together: chunks a map's rows, commits a state and the map that queries read.
 -- Source: Replicache, How It Works, "The Client View"; that maps are kept in chunks is this project's own rule.
-use Rattle.std.specs.Prelude.{ℕ, ◌+◌, nat_le, ◌==◌, Bool, false, List, [], ◌∷◌, ◌++◌, map, length, if◌then◌else◌, Some}
-use Rattle.std.specs.Prelude.{None, Option, option_and_then, option_map, ◌≡◌}
+use Rattle.std.specs.Prelude.{ℕ, ◌+◌, nat_le, ◌==◌, ◌&&◌, Bool, true, false, List, [], ◌∷◌, ◌++◌, map, length, Some}
+use Rattle.std.specs.Prelude.{None, Option, option_and_then, option_map, ◌≡◌, if◌then◌else◌}
 use Rattle.std.specs.Ordering.{nat_cmp}
-use Rattle.std.specs.Cmp.Lexicographic.{slice_cmp}
+use Rattle.std.specs.Cmp.Lexicographic.{slice_cmp, pointwise}
 use Rattle.std.specs.FinMap as finite
 use Rattle.group_history.specs.declared.nodes.Chunk.{Chunk}
 use Rattle.group_history.specs.declared.nodes.Chunk.TheVariants.{Leaf, Inner}
@@ -14,11 +14,13 @@ use Rattle.group_history.specs.declared.nodes.CommitChange.{CommitChange}
 use Rattle.group_history.specs.declared.nodes.CommitChange.TheVariants.{Local, Closed}
 use Rattle.group_history.specs.declared.nodes.Node.{Node}
 use Rattle.group_history.specs.declared.nodes.Node.TheVariants as node
+use Rattle.group_history.specs.declared.mutations.Mutation.{Mutation}
+use Rattle.group_history.specs.declared.responses.Confirmed.{Confirmed}
 use Rattle.group_history.specs.Map.{Bytes, Entries, same_text}
 use Rattle.group_history.specs.Rows.{Rows}
-use Rattle.group_history.specs.State.{State, pulled_state, view_of}
+use Rattle.group_history.specs.State.{State, Ids, pulled_state, view_of}
 use Rattle.group_history.specs.Mutating.{after_mutate}
-use Rattle.group_history.specs.Pulling.{after_closing}
+use Rattle.group_history.specs.Pulling.{after_closing, overwritten}
 use Rattle.group_history.specs.Folds.{folded, answer}
 use Rattle.group_history.specs.Meaning.{Meanings}
 
@@ -119,14 +121,31 @@ abbrev pub stepped : State → CommitChange → State
 stepped s (Local x) = after_mutate s x
 stepped s Closed = after_closing s
 
--- the state after one step more; a closed one has none
-abbrev pub state_over : CommitChange → Version → Option State
-state_over step v = if v.state.closed then None else Some (stepped v.state step)
+-- each client's last id, where ids follow: the confirmed ones, overwritten by those of what is pending
+abbrev pub said_id : Mutation → Confirmed
+said_id x = record { client = x.client; id = x.id }
+
+abbrev pub last_ids : State → Ids
+last_ids s = overwritten s.confirmed (map said_id s.pending)
+
+-- whether they are the same ids of the same clients
+abbrev pub same_ids : Ids → Ids → Bool
+same_ids is js = pointwise (λ a b. same_text a.0 b.0 && a.1 == b.1) (finite.entries is) (finite.entries js)
+
+-- whether a commit over the state tells each client's last id there, or none
+abbrev pub tells_right : Option Ids → State → Bool
+tells_right None s = true
+tells_right (Some ids) s = same_ids ids (last_ids s)
+
+-- the state after one step more, where no wrong ids are told; a closed one has none
+abbrev pub state_over : Option Ids → CommitChange → Version → Option State
+state_over told step v =
+    if v.state.closed then None else (if tells_right told v.state then Some (stepped v.state step) else None)
 
 -- a snapshot spells a state with nothing pending, a commit over a basis the basis's state after one step more
 abbrev pub state_in : List (Option Spelled) → CommitKind ℕ → Entries → Option State
 state_in done (Snapshot s) m = Some (pulled_state m s.cookie s.confirmed)
-state_in done (Over o) m = option_and_then (state_over o.step) (basis_in done o.basis o.snapshot)
+state_in done (Over o) m = option_and_then (state_over o.told o.step) (basis_in done o.basis o.snapshot)
 
 -- a commit spells that state, and the map of its root for queries
 abbrev pub commit_in : List (Option Spelled) → Commit ℕ → Option Version

@@ -15,9 +15,12 @@ use Rattle.group_history.specs.Cookies.{Cookie, null_cookie}
 abbrev pub Ids : Type 0
 Ids = finite.FinMap (slice_cmp nat_cmp) ℕ
 
--- ids can be told apart, so a type's value may hold them
+-- ids can be told apart, so a type's value may hold them; so can maps
 pub ids_coded : Coded Ids
 ids_coded = finite.code (coded_list coded_ℕ) coded_ℕ
+
+pub entries_coded : Coded Entries
+entries_coded = finite.code (coded_list coded_ℕ) (coded_list coded_ℕ)
 
 pub record State : Type 0 where
   -- the map as the server last sent it

@@ -1,4 +1,4 @@
-//! The ids that a server confirmed, shared between snapshots.
+//! An id for each client: the one that a server confirmed, or its last one. They are shared between commits.
 ghost use Rattle.std.specs.Prelude.{◌≡◌, IfOk};
 ghost use Rattle.group_history.specs.State.{confirmed_id};
 ghost use Rattle.group_history.specs.Pulling.{overwritten};
@@ -11,7 +11,7 @@ use std::alloc::{AllocError, Global};
 use std::marker::Model;
 use std::sync::Arc;
 
-/// Each client's confirmed id. A clone shares them.
+/// Each client's confirmed id, or its last one. A clone shares them.
 pub struct ConfirmedIds {
     shared: Arc<TextMap<u64>>,
 }

@@ -22,9 +22,9 @@
 //! client's next id always fits. A closed commit has no commit over it, so whether it is closed is told by itself. The
 //! plain group keeps its view beside its parts, and makes all new parts of a pull before it writes them. `apply_patch`
 //! and `cookie_cmp` stand here since the plain group needs them. A chunk's keys are one shared block, so a copy of an
-//! inner chunk costs one count and its children. A `BTreeMap` over shared texts is searched by `&Text`, not by `&str`,
-//! so a text is made for a look-up; a `Borrow` of shared texts in the toolchain would change that. A stop of a view is
-//! a `Stop`; a plain view stops for want of memory alone.
+//! inner chunk costs one count and its children. A `TextMap` is one vector of rows sorted by key, so a copy is one
+//! block and a look-up halves; what is put in or taken out moves the rows behind it. It is searched by `&Text`, not by
+//! `&str`, so a text is made for a look-up. A stop of a view is a `Stop`; a plain view stops for want of memory alone.
 //!
 //! Tested and not proved: that calls succeed with ample memory; compact texts and orders of cookies against values from
 //! outside.

@@ -221,6 +221,8 @@ pub struct Successor<R> {
     pub snapshot: R,
     /// What it adds to the basis.
     pub step: CommitChange,
+    /// Each client's last id at the basis, where the commit tells them.
+    pub told: Option<ConfirmedIds>,
 }
 
 /// What a commit is: a snapshot, or one over a basis.

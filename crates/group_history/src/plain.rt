@@ -1,7 +1,7 @@
 //! A group of one thread, by the definitions.
 //!
 //! It keeps the pulled map, the cookie, the confirmed ids and the pending mutations, and beside them the
-//! view, so that a query is one look-up. Its invariant (`IsKept`) says that the view is the replay of what
+//! view, so that a query is one look-up. Its invariant (`IsSound`) says that the view is the replay of what
 //! is pending, and that each client's pending ids are the numbers that follow its confirmed id. So the next
 //! id fits 64 bits with no bound asked of the caller.
 ghost use Rattle.std.specs.Prelude.{◌≡◌, ◌+◌, false, Ok, IfOk, IfErr, OnOk, OnErr};
@@ -44,7 +44,7 @@ pub struct PlainGroup<M: Mutators> {
 
 impl<M: Mutators> Model for PlainGroup<M> {
     ghost use Rattle.group_history.specs.State.{State, state};
-    ghost use Rattle.group_history.specs.Inside.Plain.{IsKept};
+    ghost use Rattle.group_history.specs.Inside.Plain.{IsSound};
     ghost use Rattle.std.specs.Ordering.{nat_cmp};
     ghost use Rattle.std.specs.Cmp.Lexicographic.{slice_cmp};
     ghost use Rattle.std.specs.Coded.{codes, coded_ℕ, coded_list};
@@ -60,7 +60,7 @@ impl<M: Mutators> Model for PlainGroup<M> {
 
     ghost view = { λ g. state g.pulled g.cookie g.confirmed g.pending.items g.closed };
 
-    ghost invariant = { λ g. IsKept M.means g.view g.pulled g.confirmed g.pending.items };
+    ghost invariant = { λ g. IsSound M.means g.view g.pulled g.confirmed g.pending.items };
 }
 
 impl<M: Mutators> PlainGroup<M> {

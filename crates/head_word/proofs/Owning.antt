@@ -12,7 +12,7 @@ use Rattle.group_history.specs.declared.refs.Ref.{Ref}
 use Rattle.head_word.specs.Books.{next_stamp, last_move, IsOpened}
 use Rattle.head_word.specs.Rules.{head_says}
 use Rattle.head_word.specs.Marks.{Known, own, own_of, others}
-use Rattle.head_word.specs.Inside.Steps.{Taken, answer, Adds, Misses}
+use Rattle.head_word.specs.Inside.Steps.{Taken, tallied, AddsEntry, Misses}
 use Rattle.std.proofs.lemmas.Bool.Decides.{eqb_tells}
 use Rattle.std.proofs.lemmas.Bool.{eq-eqb, false≢true}
 use Rattle.std.proofs.lemmas.List.{append-nil}
@@ -27,9 +27,9 @@ count_told about ask n is = ap told_count is ∙ told_of n ask
 
 -- the offer's answer says that the book had as many entries as the tally, so it has no other entries of the seat
 pub own_same : (k n : ℕ) (log log' : List Entry) → IsPrefix log log' → n ≡ count k log → (a : Answer) (m : ℕ)
-    → Some a ≡ Some (answer (count k log') m) → a.before ≡ n → mine k log' ≡ mine k log
+    → Some a ≡ Some (tallied (count k log') m) → a.before ≡ n → mine k log' ≡ mine k log
 own_same k n log log' pre sits a m is told =
-    let is' : a ≡ answer (count k log') m = cc is in
+    let is' : a ≡ tallied (count k log') m = cc is in
     mine_same k log log' pre (sym (ap (λ (b : Answer). b.before) is') ∙ (told ∙ sits))
 
 -- one entry more
@@ -44,15 +44,15 @@ alone k ask key = rw (eq-eqb (key_of ask) k key) refl
 -- an exchange of a seat's adds its one entry, or none
 pub own_added : (says : List Entry → ℕ) (means : Meanings) (k n : ℕ) (t : Taken) (a : Answer) (won : Bool)
     → key_of t.ask ≡ k → n ≡ count k t.before → a.before ≡ n → t.answer ≡ Some a → IsPrefix t.before t.after
-    → MatchBool won (Adds says means t) (Misses says t)
+    → MatchBool won (AddsEntry says means t) (Misses says t)
     → mine k t.after ≡ mine k t.before ++ (if won then t.ask ∷ [] else [])
 own_added says means k n t a true key sits told has pre h =
-    let is = subst (λ (j : ℕ). Some a ≡ Some (answer (count j h.log) (count j t.after))) key (sym has ∙ h.counted) in
+    let is = subst (λ (j : ℕ). Some a ≡ Some (tallied (count j h.log) (count j t.after))) key (sym has ∙ h.counted) in
     let mid : mine k h.log ≡ mine k t.before = own_same k n t.before h.log h.seen sits a (count k t.after) is told in
     ap (mine k) h.added ∙ (mine_more k h.log (t.ask ∷ []) ∙
     (ap (λ w. w ++ mine k (t.ask ∷ [])) mid ∙ ap (λ w. mine k t.before ++ w) (alone k t.ask key)))
 own_added says means k n t a false key sits told has pre h =
-    let is = subst (λ (j : ℕ). Some a ≡ Some (answer (count j t.after) (count j t.after))) key (sym has ∙ h.counted) in
+    let is = subst (λ (j : ℕ). Some a ≡ Some (tallied (count j t.after) (count j t.after))) key (sym has ∙ h.counted) in
     own_same k n t.before t.after pre sits a (count k t.after) is told ∙ sym (append-nil (mine k t.before))
 
 mine_within : (k : ℕ) (xs : List Entry) → length (mine k xs) ≤ length xs
@@ -77,7 +77,7 @@ drew_more xs ys (e ∷ es, is) other = omega (arith, sym (ap length is) ∙ leng
 
 -- what an exchange of the head tells of the move
 pub move_told : (means : Meanings) (t : Taken) (base : Ref) (won : Bool) → t.expected ≡ base.bits
-    → (t.found == t.expected) ≡ won → MatchBool won (Adds head_says means t) (Misses head_says t)
+    → (t.found == t.expected) ≡ won → MatchBool won (AddsEntry head_says means t) (Misses head_says t)
     → MatchBool won ((log : List Entry) × IsPrefix t.before log × IsOpened means log × (last_move log ≡ base)
     × (t.after ≡ log ++ t.ask ∷ [])) (last_move t.after ≢ base)
 move_told means t base true at is told =

@@ -31,12 +31,13 @@ use Rattle.head_word.specs.declared.entry.Answer.{Answer}
 use Rattle.head_word.specs.declared.entry.Entry.{Entry}
 use Rattle.head_word.specs.declared.entry.Entry.TheVariants as v
 use Rattle.head_word.specs.Books.{drafted_contents, drawn, next_stamp, last_move, nowhere, record_of, AreOrdered}
-use Rattle.head_word.specs.Books.{IsBook, drafted, moved, opened, opening, opened_at, seats_of, StartsOpened, IsBySeat}
+use Rattle.head_word.specs.Books.{IsBook, drafted, moved, opened, book_opening, opened_at, seats_of, StartsOpened}
+use Rattle.head_word.specs.Books.{IsBySeat}
 use Rattle.head_word.specs.Books.{IsOpened, IsBefore, AreAfter, IsChangeFrom}
 use Rattle.head_word.specs.Tallies.{key_of, count}
 use Rattle.head_word.specs.Rules.{head_says, drafts_say, FitsOpened, Fits, IsKept}
 use Rattle.head_word.specs.Inside.Parts.{Trades}
-use Rattle.head_word.specs.Inside.Steps.{tells, answer, Counts, Exchanges, Opens}
+use Rattle.head_word.specs.Inside.Steps.{step_tells, tallied, CountsEntries, Exchanges, OpensBook}
 use Rattle.head_word.proofs.Books.{drawn_more, moved_more, record_more, rising_more}
 use Rattle.head_word.proofs.Books.{length-drafted, numbered_more, ordered_more}
 use Rattle.head_word.proofs.Books.{drafted_ordered, spells_more, starts_more, seats_more, seats_added, next_more}
@@ -121,7 +122,7 @@ not_both (Some (segment t)) s w p q = absurd cc
 not_both (Some (version t k)) s w p q = absurd cc
 
 -- a book that is opened begins with what it opened with
-pub starts_with : (log : List Entry) → StartsOpened log → IsPrefix (opening (seats_of log) (opened_at log)) log
+pub starts_with : (log : List Entry) → StartsOpened log → IsPrefix (book_opening (seats_of log) (opened_at log)) log
 starts_with [] h = absurd cc
 starts_with (x ∷ []) h = absurd cc
 starts_with (x ∷ v.Draft d ∷ xs) h = absurd cc
@@ -132,7 +133,7 @@ starts_with (x ∷ v.Opening o ∷ xs) h = (xs, sym (ap (λ w. w ++ xs) h))
 no_commit : (means : Meanings) (log : List Entry) (s : State) → StartsOpened log → Spells means (drawn log) 0 s → ⊥
 no_commit means log s starts h =
     let begun = starts_with log starts in
-    let first = opening (seats_of log) (opened_at log) in
+    let first = book_opening (seats_of log) (opened_at log) in
     let leaf : Segment = record { depth = 1; rows = [] } in
     let all : drawn first ++ drawn begun.0 ≡ drawn log = sym (drawn_more first begun.0) ∙ ap drawn begun.1 in
     let here : segment_at (drawn log) 0 ≡ Some leaf = subst (λ cs. segment_at cs 0 ≡ Some leaf) all
@@ -160,7 +161,7 @@ fits_opened means v log h d pre starts (inr un) = let s : StartsOpened [] = subs
     (starts_from v log pre starts) in absurd (cc s)
 
 trades_same : (ask : Entry) (log : List Entry)
-    → Trades ask log (log ++ []) (answer (count (key_of ask) (log ++ [])) (count (key_of ask) (log ++ [])))
+    → Trades ask log (log ++ []) (tallied (count (key_of ask) (log ++ [])) (count (key_of ask) (log ++ [])))
 trades_same ask log = record {
   before = ap (count (key_of ask)) (append-nil log);
   after = refl;
@@ -168,7 +169,7 @@ trades_same ask log = record {
 }
 
 trades_more : (ask : Entry) (log : List Entry)
-    → Trades ask log (log ++ ask ∷ []) (answer (count (key_of ask) log) (count (key_of ask) (log ++ ask ∷ [])))
+    → Trades ask log (log ++ ask ∷ []) (tallied (count (key_of ask) log) (count (key_of ask) (log ++ ask ∷ [])))
 trades_more ask log = record {
   before = refl;
   after = refl;
@@ -187,13 +188,13 @@ same_opened means log o = subst (IsOpened means) (sym (append-nil log)) o
 -- a seat's look, at either word
 pub head_counted : (means : Meanings) (v : List Entry) (ask : Entry) → StartsOpened v
     → Moves (IsKept means) shown (Trades ask) 0 (v, (no_nib, None)) (λ n. n)
-    (tells (Counts head_says means) (step 0 0 0 ask) (v, (no_nib, None)))
+    (step_tells (CountsEntries head_says means) (step 0 0 0 ask) (v, (no_nib, None)))
 head_counted means v ask starts cs log kept pre away =
     let fits = fits_opened means v log kept.head kept.drafts pre starts kept.fits in
     let P : List Cell → Type 0 = λ c. (0 < length c) × ((cell c 0).1 ≡ true)
     × Goes (IsKept means) shown (Trades ask) 0 (v, (no_nib, None)) (λ n. n)
-    (tells (Counts head_says means) (step 0 0 0 ask) (v, (no_nib, None))) c log in
-    let n : Answer = answer (count (key_of ask) (log ++ [])) (count (key_of ask) (log ++ [])) in
+    (step_tells (CountsEntries head_says means) (step 0 0 0 ask) (v, (no_nib, None))) c log in
+    let n : Answer = tallied (count (key_of ask) (log ++ [])) (count (key_of ask) (log ++ [])) in
     subst P (sym kept.words) (
       omega arith,
       refl,
@@ -214,13 +215,13 @@ head_counted means v ask starts cs log kept pre away =
 
 pub drafts_counted : (means : Meanings) (v : List Entry) (ask : Entry) → StartsOpened v
     → Moves (IsKept means) shown (Trades ask) 1 (v, (no_nib, None)) (λ n. n)
-    (tells (Counts drafts_say means) (step 1 0 0 ask) (v, (no_nib, None)))
+    (step_tells (CountsEntries drafts_say means) (step 1 0 0 ask) (v, (no_nib, None)))
 drafts_counted means v ask starts cs log kept pre away =
     let fits = fits_opened means v log kept.head kept.drafts pre starts kept.fits in
     let P : List Cell → Type 0 = λ c. (1 < length c) × ((cell c 1).1 ≡ true)
     × Goes (IsKept means) shown (Trades ask) 1 (v, (no_nib, None)) (λ n. n)
-    (tells (Counts drafts_say means) (step 1 0 0 ask) (v, (no_nib, None))) c log in
-    let n : Answer = answer (count (key_of ask) (log ++ [])) (count (key_of ask) (log ++ [])) in
+    (step_tells (CountsEntries drafts_say means) (step 1 0 0 ask) (v, (no_nib, None))) c log in
+    let n : Answer = tallied (count (key_of ask) (log ++ [])) (count (key_of ask) (log ++ [])) in
     subst P (sym kept.words) (
       omega arith,
       refl,
@@ -262,12 +263,12 @@ draft_goes : (means : Meanings) (v log : List Entry) (by : Option ℕ) (contents
     → old + length contents ≤ stamps → (b : Bool) → (d == old) ≡ b
     → Goes (IsKept means) shown (Trades (drafted by old contents)) 1 (v, (no_nib, None))
     (λ n. either (n == old) (old + length contents) n)
-    (tells (Exchanges drafts_say means) (step 1 old (old + length contents) (drafted by old contents))
+    (step_tells (Exchanges drafts_say means) (step 1 old (old + length contents) (drafted by old contents))
     (v, (no_nib, None))) ((h, true) ∷ (d, true) ∷ []) log
 draft_goes means v log by contents old h d pre starts seat before fits room true is =
     let at : next_stamp log ≡ old = sym fits.drafts_are ∙ eqb-true d old is in
     let e = drafted by old contents in
-    let n : Answer = answer (count (key_of e) log) (count (key_of e) (log ++ e ∷ [])) in
+    let n : Answer = tallied (count (key_of e) log) (count (key_of e) (log ++ e ∷ [])) in
     let room' : next_stamp log + length contents ≤ stamps = omega (arith, at, room) in
     let book' : IsBook means (log ++ e ∷ []) = subst (λ (k : ℕ). IsBook means (log ++ drafted by k contents ∷ [])) at
     (book_draft means log by contents fits.opened.0 (after_from v log contents pre before) room') in
@@ -302,7 +303,7 @@ draft_goes means v log by contents old h d pre starts seat before fits room true
     )
 draft_goes means v log by contents old h d pre starts seat before fits room false is =
     let e = drafted by old contents in
-    let n : Answer = answer (count (key_of e) (log ++ [])) (count (key_of e) (log ++ [])) in
+    let n : Answer = tallied (count (key_of e) (log ++ [])) (count (key_of e) (log ++ [])) in
     let d' : either (d == old) (old + length contents) d ≡ d = rw is refl in (
       keeps,
       [],
@@ -322,14 +323,14 @@ pub draft_moves : (means : Meanings) (v : List Entry) (by : Option ℕ) (content
     → old + length contents ≤ stamps
     → Moves (IsKept means) shown (Trades (drafted by old contents)) 1 (v, (no_nib, None))
     (λ n. either (n == old) (old + length contents) n)
-    (tells (Exchanges drafts_say means) (step 1 old (old + length contents) (drafted by old contents))
+    (step_tells (Exchanges drafts_say means) (step 1 old (old + length contents) (drafted by old contents))
     (v, (no_nib, None)))
 draft_moves means v by contents old starts seat before room cs log kept pre away =
     let fits = fits_opened means v log kept.head kept.drafts pre starts kept.fits in
     let P : List Cell → Type 0 = λ c. (1 < length c) × ((cell c 1).1 ≡ true)
     × Goes (IsKept means) shown (Trades (drafted by old contents)) 1 (v, (no_nib, None))
     (λ n. either (n == old) (old + length contents) n)
-    (tells (Exchanges drafts_say means) (step 1 old (old + length contents) (drafted by old contents))
+    (step_tells (Exchanges drafts_say means) (step 1 old (old + length contents) (drafted by old contents))
     (v, (no_nib, None))) c log in
     subst P (sym kept.words) (
       omega arith,
@@ -344,13 +345,13 @@ move_goes : (means : Meanings) (v log : List Entry) (by : Option ℕ) (base to :
     → (b : Bool) → (h == base.bits) ≡ b
     → Goes (IsKept means) shown (Trades (moved by to change)) 0 (v, (no_nib, None))
     (λ n. either (n == base.bits) to.bits n)
-    (tells (Exchanges head_says means) (step 0 base.bits to.bits (moved by to change)) (v, (no_nib, None)))
+    (step_tells (Exchanges head_says means) (step 0 base.bits to.bits (moved by to change)) (v, (no_nib, None)))
     ((h, true) ∷ (d, true) ∷ []) log
 move_goes means v log by base to change h d pre starts seat follows fits true is =
     let at : h ≡ base.bits = eqb-true h base.bits is in
     let last : (last_move log).bits ≡ base.bits = sym fits.head_is ∙ at in
     let e = moved by to change in
-    let n : Answer = answer (count (key_of e) log) (count (key_of e) (log ++ e ∷ [])) in
+    let n : Answer = tallied (count (key_of e) log) (count (key_of e) (log ++ e ∷ [])) in
     let state : State = after (record_of log) in
     let here : Spells means (drawn log) (stamp_of base) follows.state = spells_from means v log
     (stamp_of base) follows.state pre follows.before in
@@ -390,7 +391,7 @@ move_goes means v log by base to change h d pre starts seat follows fits true is
     )
 move_goes means v log by base to change h d pre starts seat follows fits false is =
     let e = moved by to change in
-    let n : Answer = answer (count (key_of e) (log ++ [])) (count (key_of e) (log ++ [])) in
+    let n : Answer = tallied (count (key_of e) (log ++ [])) (count (key_of e) (log ++ [])) in
     let h' : either (h == base.bits) to.bits h ≡ h = rw is refl in (
       keeps,
       [],
@@ -409,13 +410,13 @@ pub move_moves : (means : Meanings) (v : List Entry) (by : Option ℕ) (base to 
     → IsBySeat (seats_of v) (moved by to change) → IsChangeFrom means (drawn v) base to change
     → Moves (IsKept means) shown (Trades (moved by to change)) 0 (v, (no_nib, None))
     (λ n. either (n == base.bits) to.bits n)
-    (tells (Exchanges head_says means) (step 0 base.bits to.bits (moved by to change)) (v, (no_nib, None)))
+    (step_tells (Exchanges head_says means) (step 0 base.bits to.bits (moved by to change)) (v, (no_nib, None)))
 move_moves means v by base to change starts seat follows cs log kept pre away =
     let fits = fits_opened means v log kept.head kept.drafts pre starts kept.fits in
     let P : List Cell → Type 0 = λ c. (0 < length c) × ((cell c 0).1 ≡ true)
     × Goes (IsKept means) shown (Trades (moved by to change)) 0 (v, (no_nib, None))
     (λ n. either (n == base.bits) to.bits n)
-    (tells (Exchanges head_says means) (step 0 base.bits to.bits (moved by to change))
+    (step_tells (Exchanges head_says means) (step 0 base.bits to.bits (moved by to change))
     (v, (no_nib, None))) c log in
     subst P (sym kept.words) (
       omega arith,
@@ -424,7 +425,7 @@ move_moves means v by base to change starts seat follows cs log kept pre away =
           (kept.head == base.bits) refl,
     )
 
-opening_counts : (n : ℕ) (r : Ref) (k : ℕ) → k ≢ 0 → count k (opening n r) ≡ 0
+opening_counts : (n : ℕ) (r : Ref) (k : ℕ) → k ≢ 0 → count k (book_opening n r) ≡ 0
 opening_counts n r k other = elim (eqb_tells 0 k) [
   | inl is ↦ absurd (other (sym is.1))
   | inr not ↦ rw not.0 refl
@@ -435,7 +436,7 @@ opening_child zero d lt = omega arith
 opening_child (suc k) d lt = absurd (omega (arith, lt))
 
 -- the opening commit spells the opening state
-pub opening_spells : (means : Meanings) (n : ℕ) (r : Ref) → Spells means (drawn (opening n r)) 1 (after [])
+pub opening_spells : (means : Meanings) (n : ℕ) (r : Ref) → Spells means (drawn (book_opening n r)) 1 (after [])
 opening_spells means n r = ap (λ (m : Entries). Some
     (record { state = pulled_state m null_cookie finite.empty; read = m })) empty_map
 
@@ -444,10 +445,10 @@ nowhere_first : stamp_of nowhere ≡ 0
 nowhere_first = refl
 
 -- the opening book
-pub opening_book : (means : Meanings) (n : ℕ) (r : Ref) → stamp_of r ≡ 1 → IsOpened means (opening n r)
+pub opening_book : (means : Meanings) (n : ℕ) (r : Ref) → stamp_of r ≡ 1 → IsOpened means (book_opening n r)
 opening_book means n r one =
-    let spelled : Spells means (drawn (opening n r)) (stamp_of r) (after []) = subst
-    (λ (k : ℕ). Spells means (drawn (opening n r)) k (after [])) (sym one) (opening_spells means n r) in (
+    let spelled : Spells means (drawn (book_opening n r)) (stamp_of r) (after []) = subst
+    (λ (k : ℕ). Spells means (drawn (book_opening n r)) k (after [])) (sym one) (opening_spells means n r) in (
       record {
         numbered = refl;
         room = lit≤ tt;
@@ -463,10 +464,10 @@ opening_book means n r one =
 opens_goes : (means : Meanings) (v log : List Entry) (seats : ℕ) (r : Ref) (h d : ℕ) → stamp_of r ≡ 1
     → Fits means h d log
     → Goes (IsKept means) shown (Trades (opened seats r)) 0 (v, (no_nib, None)) (λ n. either (n == 0) r.bits n)
-    (tells Opens (step 0 0 r.bits (opened seats r)) (v, (no_nib, None))) ((h, true) ∷ (d, true) ∷ []) log
+    (step_tells OpensBook (step 0 0 r.bits (opened seats r)) (v, (no_nib, None))) ((h, true) ∷ (d, true) ∷ []) log
 opens_goes means v log seats r h d one (inl fits) =
     let ask = opened seats r in
-    let n : Answer = answer (count (key_of ask) (log ++ [])) (count (key_of ask) (log ++ [])) in
+    let n : Answer = tallied (count (key_of ask) (log ++ [])) (count (key_of ask) (log ++ [])) in
     let is : (h == 0) ≡ false = head_some means log h fits.opened fits.head_is in
     let h' : either (h == 0) r.bits h ≡ h = rw is refl in
     let counts : 0 < count (key_of ask) (log ++ []) = rw (append-nil log) (count_starts log fits.opened.1) in (
@@ -480,8 +481,8 @@ opens_goes means v log seats r h d one (inl fits) =
     )
 opens_goes means v log seats r h d one (inr un) =
     let ask = opened seats r in
-    let book = opening seats r in
-    let n : Answer = answer 0 2 in
+    let book = book_opening seats r in
+    let n : Answer = tallied 0 2 in
     let h' : either (h == 0) r.bits h ≡ r.bits = rw un.head_is refl in
     let d' : d ≡ next_stamp book = un.drafts_are in
     let all : log ++ book ≡ book = ap (λ w. w ++ book) un.empty in
@@ -508,10 +509,10 @@ opens_goes means v log seats r h d one (inr un) =
 -- the exchange opens the book, where nothing was added by no seat
 pub opens_moves : (means : Meanings) (v : List Entry) (seats : ℕ) (r : Ref) → stamp_of r ≡ 1
     → Moves (IsKept means) shown (Trades (opened seats r)) 0 (v, (no_nib, None)) (λ n. either (n == 0) r.bits n)
-    (tells Opens (step 0 0 r.bits (opened seats r)) (v, (no_nib, None)))
+    (step_tells OpensBook (step 0 0 r.bits (opened seats r)) (v, (no_nib, None)))
 opens_moves means v seats r one cs log kept pre away =
     let ask = opened seats r in
     let P : List Cell → Type 0 = λ c. (0 < length c) × ((cell c 0).1 ≡ true)
     × Goes (IsKept means) shown (Trades ask) 0 (v, (no_nib, None)) (λ n. either (n == 0) r.bits n)
-    (tells Opens (step 0 0 r.bits ask) (v, (no_nib, None))) c log in
+    (step_tells OpensBook (step 0 0 r.bits ask) (v, (no_nib, None))) c log in
     subst P (sym kept.words) (omega arith, refl, opens_goes means v log seats r kept.head kept.drafts one kept.fits)

@@ -121,8 +121,8 @@ abbrev pub opening_stamps : ℕ
 opening_stamps = 2
 
 -- the two entries that a book for so many seats opens with, by no seat: their draft, and a move to the snapshot
-abbrev pub opening : ℕ → Ref → List Entry
-opening seats to = drafted None 0 (empty_leaf ∷ opening_snapshot ∷ []) ∷ opened seats to ∷ []
+abbrev pub book_opening : ℕ → Ref → List Entry
+book_opening seats to = drafted None 0 (empty_leaf ∷ opening_snapshot ∷ []) ∷ opened seats to ∷ []
 
 -- how many they are
 abbrev pub opening_entries : ℕ
@@ -150,7 +150,7 @@ seats_of (e ∷ v.Opening o ∷ es) = o.seats
 
 -- the book begins with the opening's entries
 abbrev pub StartsOpened : List Entry → Type 0
-StartsOpened log = take opening_entries log ≡ opening (seats_of log) (opened_at log)
+StartsOpened log = take opening_entries log ≡ book_opening (seats_of log) (opened_at log)
 
 -- the entry was added by one of so many seats
 abbrev pub IsBySeat : ℕ → Entry → Type 0

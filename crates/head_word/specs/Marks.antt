@@ -41,6 +41,6 @@ abbrev pub HasSeat : Book → Known → Type 0
 HasSeat book m = (m.book ≡ book) × IsSome m.seat
 
 -- the refusal that a lost draft is told as
-abbrev pub refusal_of : Lost → Refusal
-refusal_of lost.Moved = refusal.Moved
-refusal_of lost.Stamps = refusal.Stamps
+abbrev pub lost_refusal : Lost → Refusal
+lost_refusal lost.Moved = refusal.Moved
+lost_refusal lost.Stamps = refusal.Stamps

@@ -78,9 +78,9 @@ pub struct Idle;
 impl Plain<LookAsk, Entry, Answer> for Idle {
     ghost use Rattle.std.specs.Prelude.{Some, []};
     ghost use Rattle.head_word.specs.Books.{drafted};
-    ghost use Rattle.head_word.specs.Inside.Steps.{answer};
+    ghost use Rattle.head_word.specs.Inside.Steps.{tallied};
 
     ghost ask = { λ w. drafted w.by 0 [] };
 
-    ghost state = { λ w. Some (answer 0 0) };
+    ghost state = { λ w. Some (tallied 0 0) };
 }

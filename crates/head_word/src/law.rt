@@ -49,9 +49,9 @@ impl Gain<Entry, Answer> for Traded {
 pub struct Opens;
 
 impl Play<Entry, Answer> for Opens {
-    ghost use Rattle.head_word.specs.Inside.Steps.{tells, Opens};
+    ghost use Rattle.head_word.specs.Inside.Steps.{step_tells, OpensBook};
 
-    ghost then = { tells Opens };
+    ghost then = { step_tells OpensBook };
 }
 
 /// A look at the head word by no seat.
@@ -61,9 +61,9 @@ pub struct LooksAtHead<M: Means> {
 
 impl<M: Means> Play<Entry, Answer> for LooksAtHead<M> {
     ghost use Rattle.head_word.specs.Rules.{head_says};
-    ghost use Rattle.head_word.specs.Inside.Steps.{tells, Looks};
+    ghost use Rattle.head_word.specs.Inside.Steps.{step_tells, LooksAtBook};
 
-    ghost then = { tells (Looks head_says M.means) };
+    ghost then = { step_tells (LooksAtBook head_says M.means) };
 }
 
 /// A seat's look at the head word.
@@ -73,9 +73,9 @@ pub struct CountsAtHead<M: Means> {
 
 impl<M: Means> Play<Entry, Answer> for CountsAtHead<M> {
     ghost use Rattle.head_word.specs.Rules.{head_says};
-    ghost use Rattle.head_word.specs.Inside.Steps.{tells, Counts};
+    ghost use Rattle.head_word.specs.Inside.Steps.{step_tells, CountsEntries};
 
-    ghost then = { tells (Counts head_says M.means) };
+    ghost then = { step_tells (CountsEntries head_says M.means) };
 }
 
 /// A seat's look at the draft word.
@@ -85,9 +85,9 @@ pub struct CountsAtDrafts<M: Means> {
 
 impl<M: Means> Play<Entry, Answer> for CountsAtDrafts<M> {
     ghost use Rattle.head_word.specs.Rules.{drafts_say};
-    ghost use Rattle.head_word.specs.Inside.Steps.{tells, Counts};
+    ghost use Rattle.head_word.specs.Inside.Steps.{step_tells, CountsEntries};
 
-    ghost then = { tells (Counts drafts_say M.means) };
+    ghost then = { step_tells (CountsEntries drafts_say M.means) };
 }
 
 /// An exchange of the draft word.
@@ -97,9 +97,9 @@ pub struct AddsDraft<M: Means> {
 
 impl<M: Means> Play<Entry, Answer> for AddsDraft<M> {
     ghost use Rattle.head_word.specs.Rules.{drafts_say};
-    ghost use Rattle.head_word.specs.Inside.Steps.{tells, Exchanges};
+    ghost use Rattle.head_word.specs.Inside.Steps.{step_tells, Exchanges};
 
-    ghost then = { tells (Exchanges drafts_say M.means) };
+    ghost then = { step_tells (Exchanges drafts_say M.means) };
 }
 
 /// An exchange of the head word.
@@ -109,7 +109,7 @@ pub struct AddsMove<M: Means> {
 
 impl<M: Means> Play<Entry, Answer> for AddsMove<M> {
     ghost use Rattle.head_word.specs.Rules.{head_says};
-    ghost use Rattle.head_word.specs.Inside.Steps.{tells, Exchanges};
+    ghost use Rattle.head_word.specs.Inside.Steps.{step_tells, Exchanges};
 
-    ghost then = { tells (Exchanges head_says M.means) };
+    ghost then = { step_tells (Exchanges head_says M.means) };
 }

@@ -1,5 +1,6 @@
-//! The shared head of a group: threads draw stamps for new nodes, and move the head from commit to commit by changes of
-//! one legal record. `head` tells the protocol.
+//! The shared head of a group (its root pointer, moved by compare-exchange): threads draw stamps (version numbers) for
+//! new nodes, and move the head from commit to commit (version to version) by changes of one legal record (sequential
+//! history). `head` tells the protocol.
 //!
 //! The head word is the `Ref` of the commit where the last change led. The draft word is the first stamp that nobody
 //! drew. In definitions the two stand for one list that only grows, the *book*: an entry is a draft (its first stamp,

@@ -1,7 +1,7 @@
 //! Why an exchange of one of the two words added nothing.
 ghost use Rattle.std.specs.Prelude.{◌≡◌};
 ghost use Rattle.group_history.specs.declared.refusals.Refusal.TheVariants as refusal;
-ghost use Rattle.head_word.specs.Marks.{refusal_of};
+ghost use Rattle.head_word.specs.Marks.{lost_refusal};
 
 use group_history::Refusal;
 use thiserror::Error;
@@ -21,7 +21,7 @@ pub enum Lost {
 pub struct Moved;
 
 impl From<Lost> for Refusal {
-    ghost from_gives = { λ lost refused. refused ≡ refusal_of lost };
+    ghost from_gives = { λ lost refused. refused ≡ lost_refusal lost };
 
     fn from(lost: Lost) -> Refusal {
         match lost {

@@ -77,7 +77,7 @@ impl<M: Means> Drop for Mark<M> {
 impl<M: Means> Model for Mark<M> {
     ghost use Rattle.head_word.specs.Books.{IsOpened};
     ghost use Rattle.head_word.specs.Marks.{Known, known};
-    ghost use Rattle.head_word.specs.Inside.Seats.{number_of, Sits};
+    ghost use Rattle.head_word.specs.Inside.Seats.{number_of_seat, IfHasTally};
     ghost use Rattle.head_word.specs.contracts.entry.Entry as entry;
     ghost use Rattle.std.specs.Coded.{codes};
 
@@ -85,9 +85,9 @@ impl<M: Means> Model for Mark<M> {
 
     ghost coded = { Prim.hlevel (codes, entry.the_row.coded) };
 
-    ghost view = { λ m. known m.seen.book m.seen.log (number_of m.seat) };
+    ghost view = { λ m. known m.seen.book m.seen.log (number_of_seat m.seat) };
 
-    ghost invariant = { λ m. IsOpened M.means m.seen.log × Sits m.seen.names m.seen.log m.seat };
+    ghost invariant = { λ m. IsOpened M.means m.seen.log × IfHasTally m.seen.names m.seen.log m.seat };
 }
 
 impl<M: Means> Mark<M> {

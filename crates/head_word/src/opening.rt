@@ -4,9 +4,9 @@
 ghost use Rattle.std.specs.Prelude.{◌≡◌, ◌+◌, ◌<◌, ◌≤◌, List, IfOk};
 ghost use Rattle.group_history.specs.declared.refs.Ref.{Ref};
 ghost use Rattle.group_history.specs.Refs.{stamp_of, max_slots, max_seats};
-ghost use Rattle.head_word.specs.Books.{IsOpened, opening, opening_ref};
+ghost use Rattle.head_word.specs.Books.{IsOpened, book_opening, opening_ref};
 ghost use Rattle.head_word.specs.Marks.{seated};
-ghost use Rattle.head_word.specs.Inside.Parts.{keys_of};
+ghost use Rattle.head_word.specs.Inside.Parts.{key_end};
 
 use crate::asks::{Asks, OpeningMove};
 use crate::entry::{Answer, Entry};
@@ -25,7 +25,8 @@ impl<M: Means> Head<M> {
     pub fn open(alloc: Global, seats: u32, slot: u32) -> Result<(Head<M>, Vec<Mark<M>>), AllocError>
         requires seats { (1 ≤ seats) × (seats ≤ max_seats) }
         requires slot { slot < max_slots }
-        ensures marks { IfOk result (λ made. made.1.items ≡ seated made.0 (opening seats (opening_ref slot)) seats) }
+        ensures marks { IfOk result (λ made. made.1.items ≡ seated made.0 (book_opening seats
+            (opening_ref slot)) seats) }
     {
         let (start, mut tallies) = Tallies::open::<M>(seats as u64 + 1);
         let none = tallies.take();
@@ -42,11 +43,11 @@ impl<M: Means> Head<M> {
     /// The exchange that opens the book.
     fn add_opening(&self, seen: &mut Seen<Entry, Answer, Law<M>>, none: Tally, seats: u64, to: Ref)
         requires book { seen.old.book ≡ self.now }
-        requires tally { (none.names ≡ seen.old.names) × (none.key ≡ 0) × (none.count ≡ 0) × (0 < keys_of none.names) }
+        requires tally { (none.names ≡ seen.old.names) × (none.key ≡ 0) × (none.count ≡ 0) × (0 < key_end none.names) }
         requires stamp { stamp_of to ≡ 1 }
         ensures book { seen.new.book ≡ seen.old.book }
         ensures names { seen.new.names ≡ seen.old.names }
-        ensures opened { seen.new.log ≡ opening seats to }
+        ensures opened { seen.new.log ≡ book_opening seats to }
     {
         let mut offer = none.offered::<M, OpeningMove, Asks>(&OpeningMove { seats, to });
         let mut pen = seen.no_pen();
@@ -65,9 +66,9 @@ fn seat_all<M: Means>(
     mut tallies: Tallies,
     seats: u32,
 ) -> Result<Vec<Mark<M>>, AllocError>
-    requires opened { (at : Ref) × (seen.now.log ≡ opening seats at) × IsOpened M.means (opening seats at) }
+    requires opened { (at : Ref) × (seen.now.log ≡ book_opening seats at) × IsOpened M.means (book_opening seats at) }
     requires tallies { (tallies.names ≡ seen.now.names) × (tallies.next ≡ 1) × (tallies.left ≡ seats)
-        × (keys_of tallies.names ≡ seats + 1) }
+        × (key_end tallies.names ≡ seats + 1) }
     ensures marks { IfOk result (λ marks. marks.items ≡ seated seen.now.book seen.now.log seats) }
 {
     let mut marks = Vec::with_capacity(alloc, seats as usize)?;

@@ -7,7 +7,7 @@
 ghost use Rattle.std.specs.Prelude.{◌≡◌, ℕ, suc, ◌+◌, ◌-◌, ◌<◌, List, [], ◌∷◌, Some, None, replicate};
 ghost use Rattle.logbook.specs.Kept.{pens_own};
 ghost use Rattle.head_word.specs.Tallies.{key_of};
-ghost use Rattle.head_word.specs.Inside.Parts.{tally_name, keys_of, tally_owns, told_key, told_count};
+ghost use Rattle.head_word.specs.Inside.Parts.{tally_name, key_end, tally_owns, told_key, told_count};
 ghost use Rattle.head_word.specs.declared.entry.Answer.{Answer};
 
 use crate::entry::{Answer, Entry};
@@ -43,7 +43,7 @@ impl Model for Tallies {
 impl Tallies {
     /// What clients of a new book keep, and the tallies of so many keys.
     pub fn open<M: Means>(keys: u64) -> (Start<Entry, Answer, Law<M>>, Tallies)
-        ensures { (result.0.shown ≡ []) × (result.0.names ≡ result.1.names) × (keys_of result.1.names ≡ keys)
+        ensures { (result.0.shown ≡ []) × (result.0.names ≡ result.1.names) × (key_end result.1.names ≡ keys)
             × (result.1.next ≡ 0) × (result.1.left ≡ keys) }
     {
         let _ = keys;
@@ -75,7 +75,7 @@ impl Tally {
         self,
         about: &X,
     ) -> Offer<Entry, Answer, Law<M>, Traded>
-        requires { (key_of (P.ask about.now) ≡ self.key) × (self.key < keys_of self.names) }
+        requires { (key_of (P.ask about.now) ≡ self.key) × (self.key < key_end self.names) }
         ensures { (result.names ≡ self.names) × (result.ask ≡ P.ask about.now)
             × (result.about ≡ P.ask about.now ∷ replicate self.count (P.ask about.now)) × (result.state ≡ None) }
     {

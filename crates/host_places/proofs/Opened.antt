@@ -5,7 +5,7 @@ use Rattle.std.specs.List.{All}
 use Rattle.std.proofs.lemmas.List.{length-append, length-map}
 use Rattle.std.proofs.lemmas.List.Elements.{All-map, All-nil, All-pop, All-push}
 use Rattle.commit_graph.specs.Seats.{IsSeatOf, SeatState}
-use Rattle.head_word.specs.Books.{opening, opening_ref}
+use Rattle.head_word.specs.Books.{book_opening, opening_ref}
 use Rattle.head_word.specs.Marks.{Known}
 use Rattle.rebase.specs.Clients.{AreOpening, AreSeatsOf, Grouped}
 use Rattle.rebase.specs.Configs.{Layout}
@@ -68,7 +68,7 @@ opened_with layout group free desks identity seats sizes opened count new = reco
   sizes = sizes;
   count = length-map desks (λ d. d.place) ∙ count ∙ seats;
   all = All-map (IsFreshPlace group opened.commit) (λ (d : DeskState). d.place) desks (new opened.commit
-      (subst (λ (n : ℕ). All (λ (seat : SeatState). seat.mark.log ≡ opening n (opening_ref opened.commit)) free)
+      (subst (λ (n : ℕ). All (λ (seat : SeatState). seat.mark.log ≡ book_opening n (opening_ref opened.commit)) free)
       (λ i. (sym sizes i).readers)
       (λ k d below. ap (λ (m : Known). m.log) (opened.marks k d below))));
 }

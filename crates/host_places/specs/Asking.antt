@@ -10,6 +10,7 @@ use Rattle.group_history.specs.declared.refusals.Refusal.TheVariants.{NoMemory}
 use Rattle.group_history.specs.declared.scans.Scan.{Scan}
 use Rattle.group_history.specs.declared.scans.Start.{Start}
 use Rattle.group_history.specs.declared.scans.Start.TheVariants.{Any, At, After}
+use Rattle.group_history.specs.Answers.{◌>>=◌}
 use Rattle.group_history.specs.Json.{json_text}
 use Rattle.group_history.specs.Map.{Bytes}
 use Rattle.pull_patch.specs.declared.writes.Write.{Write}
@@ -17,11 +18,6 @@ use Rattle.pull_patch.specs.Writes.{writes_in}
 use Rattle.client_desk.specs.declared.outcomes.Outcome.{Outcome}
 use Rattle.client_desk.specs.declared.outcomes.Outcome.TheVariants.{Faulty, Refused}
 use Rattle.client_desk.specs.declared.faults.CallFault.TheVariants.{BadUuid, NotUtf8, OutOfRange}
-
-infixl 10 ◌>>=◌
-abbrev pub ◌>>=◌ : {A B : Type 0} → Result A Outcome → (A → Result B Outcome) → Result B Outcome
-(Ok x) >>= f = f x
-(Err e) >>= f = Err e
 
 -- what was read, as it is seen
 abbrev pub map_said : {A B : Type 0} → (A → B) → Result A Outcome → Result B Outcome

@@ -4,7 +4,7 @@ use Rattle.std.specs.List.{All}
 use Rattle.group_history.specs.declared.refusals.Refusal.TheVariants.{Busy, Full, NoMemory}
 use Rattle.group_history.specs.Map.{Bytes}
 use Rattle.commit_graph.specs.Seats.{IsSeatOf, SeatState}
-use Rattle.head_word.specs.Books.{opening, opening_ref}
+use Rattle.head_word.specs.Books.{book_opening, opening_ref}
 use Rattle.push_body.specs.declared.identities.Identity.{Identity}
 use Rattle.rebase.specs.declared.config.OutOfRange.{OutOfRange}
 use Rattle.rebase.specs.Clients.{Grouped}
@@ -14,7 +14,8 @@ use Rattle.client_desk.specs.declared.faults.CallFault.TheVariants as fault
 use Rattle.host_places.specs.declared.opening.GroupOpening.{GroupOpening}
 use Rattle.client_desk.specs.declared.outcomes.Outcome.{Outcome}
 use Rattle.client_desk.specs.declared.outcomes.Outcome.TheVariants.{Faulty, Refused}
-use Rattle.host_places.specs.Asking.{◌>>=◌, text_said, uuid_given}
+use Rattle.group_history.specs.Answers.{◌>>=◌}
+use Rattle.host_places.specs.Asking.{text_said, uuid_given}
 use Rattle.client_desk.specs.Places.{PlaceState, free_place}
 
 -- whose requests the group writes: its ID is a UUID, the others are texts
@@ -40,7 +41,7 @@ layout_for with_ = layout_said with_.id.now with_.profile.now with_.schema.now w
 
 -- the seat has seen the opening of the group's book alone, which is for as many seats as its table
 abbrev pub SawOpening : Grouped → ℕ → SeatState → Type 0
-SawOpening group commit seat = seat.mark.log ≡ opening group.group.table.sizes.readers (opening_ref commit)
+SawOpening group commit seat = seat.mark.log ≡ book_opening group.group.table.sizes.readers (opening_ref commit)
 
 -- A place of a group that was just opened: nobody sits there, and its seat has seen the opening of the group's book
 -- alone.

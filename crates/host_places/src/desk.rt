@@ -29,7 +29,7 @@ impl<M: Hosted> Model for Desk<M> {
     ghost use Rattle.group_history.specs.contracts.changes.Change as the_change;
     ghost use Rattle.group_history.specs.contracts.mutations.Mutation as the_mutation;
     ghost use Rattle.head_word.specs.contracts.entry.Entry as entry;
-    ghost use Rattle.change_tries.specs.Rooting.{entries_coded};
+    ghost use Rattle.group_history.specs.State.{entries_coded};
     ghost use Rattle.host_places.specs.Desks.{DeskState};
 
     ghost Value = { DeskState };

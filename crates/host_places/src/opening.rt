@@ -6,7 +6,7 @@ ghost use Rattle.commit_graph.specs.Seats.{IsSeatOf};
 ghost use Rattle.rebase.specs.Clients.{AreSeatsOf};
 ghost use Rattle.rebase.specs.Configs.{Layout};
 ghost use Rattle.host_places.specs.Asking.{IsSaid};
-ghost use Rattle.host_places.specs.Inside.Filling.{IsAdded};
+ghost use Rattle.host_places.specs.Inside.Filling.{IsDeskAdded};
 ghost use Rattle.host_places.specs.Opening.{AreOpened, IsFreshPlace, IsWantToOpen, SawOpening};
 ghost use Rattle.host_places.specs.Opening.{id_said, identity_said, layout_for};
 ghost use Rattle.client_desk.specs.Places.{free_place};
@@ -93,7 +93,7 @@ fn add_desk<M: Hosted>(
     desks: &mut Vec<Desk<M>>,
 ) -> Result<(), AllocError>
     requires { IsSeatOf (arc_value group.now).group seat }
-    ensures { OnOk result (IsAdded (arc_value group.now) seat desks.old.items desks.new.items) }
+    ensures { OnOk result (IsDeskAdded (arc_value group.now) seat desks.old.items desks.new.items) }
 {
     match desks.push(desk_at(alloc, group, seat)?) {
         Ok(()) => Ok(()),

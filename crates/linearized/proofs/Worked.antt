@@ -12,18 +12,19 @@ use Rattle.head_word.specs.declared.entry.Entry.{Entry}
 use Rattle.head_word.specs.Books.{record_of, moved}
 use Rattle.head_word.specs.Tallies.{key_of}
 use Rattle.linearized.specs.Answered.{IsPoint}
-use Rattle.linearized.specs.Examples.{seen, begun, ours, theirs, five, raise, pulled, raised, number_at, raise_at}
+use Rattle.linearized.specs.Examples.{seen, begun, ours, theirs, five_pulled, raise, book_pulled, book_raised}
+use Rattle.linearized.specs.Examples.{number_at, raise_at}
 use Rattle.linearized.specs.Examples.{AnsweredExamples}
 use Rattle.linearized.proofs.AtOnce.{nothing_between}
 use Rattle.linearized.proofs.Holding.{same_behind}
 
-legal_five : IsLegal trial (five ∷ [])
+legal_five : IsLegal trial (five_pulled ∷ [])
 legal_five = ((refl, λ k d lt. absurd (omega (arith, lt))), tt)
 
-legal_raise : IsLegal trial (five ∷ raise ∷ [])
+legal_raise : IsLegal trial (five_pulled ∷ raise ∷ [])
 legal_raise = ((refl, λ k d lt. absurd (omega (arith, lt))), ((simp gets refl, refl), tt))
 
-legal_closed : IsLegal trial (five ∷ Closed ∷ [])
+legal_closed : IsLegal trial (five_pulled ∷ Closed ∷ [])
 legal_closed = ((refl, λ k d lt. absurd (omega (arith, lt))), (refl, tt))
 
 -- where the caller knows nothing more after the call, a call that made no change has its point there
@@ -31,12 +32,12 @@ only_there : (book : Book) (log at : List Entry) → IsPoint trial (seen book lo
 only_there book log at is = nothing_between log at [] is.since.0 is.until.0 is.since.1
     (is.until.1 ∙ sym (append-nil log))
 
-asked_late : (book : Book) (at : List Entry) → IsPoint trial (seen book pulled) (seen book pulled) None at
+asked_late : (book : Book) (at : List Entry) → IsPoint trial (seen book book_pulled) (seen book book_pulled) None at
     → number_at (after (record_of at)) ≡ Ok None → ⊥
 asked_late book at is right =
-    let here : number_at (after (record_of pulled)) ≡ Ok (Some (codes "5")) = simp gets refl in
+    let here : number_at (after (record_of book_pulled)) ≡ Ok (Some (codes "5")) = simp gets refl in
     let e : Ok (Some (codes "5")) ≡ Ok None = sym here ∙
-    (ap (λ w. number_at (after (record_of w))) (sym (only_there book pulled at is)) ∙ right) in
+    (ap (λ w. number_at (after (record_of w))) (sym (only_there book book_pulled at is)) ∙ right) in
     absurd cc
 
 refused_wrongly : (book : Book) (at : List Entry) → IsPoint trial (seen book begun) (seen book begun) None at
@@ -48,24 +49,26 @@ refused_wrongly book at is right =
     absurd cc
 
 -- where two entries stand behind the opening, the second of them ours, one stands before our move
-between : (zs qs : List Entry) (m : Entry) → key_of m ≡ 1 → zs ++ m ∷ qs ≡ theirs five ∷ ours raise ∷ []
-    → zs ≡ theirs five ∷ []
-between [] qs m is h = absurd (let e : m ∷ qs ≡ theirs five ∷ ours raise ∷ [] = h in let f : m ≡ theirs five = cc e in
+between : (zs qs : List Entry) (m : Entry) → key_of m ≡ 1 → zs ++ m ∷ qs ≡ theirs five_pulled ∷ ours raise ∷ []
+    → zs ≡ theirs five_pulled ∷ []
+between [] qs m is h = absurd (let e : m ∷ qs ≡ theirs five_pulled ∷ ours raise ∷ [] = h in let f : m
+    ≡ theirs five_pulled = cc e in
     omega (arith, is, ap key_of f))
-between (z ∷ []) qs m is h = let e : z ∷ m ∷ qs ≡ theirs five ∷ ours raise ∷ [] = h in let f : z ≡ theirs five = cc e in
+between (z ∷ []) qs m is h = let e : z ∷ m ∷ qs ≡ theirs five_pulled ∷ ours raise ∷ [] = h in let f : z
+    ≡ theirs five_pulled = cc e in
     ap (λ w. w ∷ []) f
 between (z ∷ y ∷ zs) qs m is h = absurd (omega (arith, ap length h, length-append zs (m ∷ qs)))
 
 one_point : (book : Book) (log : List Entry)
-    → IsPoint trial (seen book begun) (seen book raised) (Some raise) log → log ≡ pulled
+    → IsPoint trial (seen book begun) (seen book book_raised) (Some raise) log → log ≡ book_pulled
 one_point book log is =
     let m : Entry = moved (Some 0) is.to raise in
     let zs = is.since.0 in
     let qs = is.until.0 in
-    let back : begun ++ (zs ++ m ∷ qs) ≡ raised = sym (append_assoc begun zs (m ∷ qs)) ∙
+    let back : begun ++ (zs ++ m ∷ qs) ≡ book_raised = sym (append_assoc begun zs (m ∷ qs)) ∙
     (ap (λ w. w ++ m ∷ qs) is.since.1 ∙ (sym (append_assoc log (m ∷ []) qs) ∙ is.until.1)) in
     sym is.since.1 ∙ ap (λ w. begun ++ w) (between zs qs m refl
-    (same_behind begun (zs ++ m ∷ qs) (theirs five ∷ ours raise ∷ []) back))
+    (same_behind begun (zs ++ m ∷ qs) (theirs five_pulled ∷ ours raise ∷ []) back))
 
 pub worked : (book : Book) → AnsweredExamples book
 worked book = record {
@@ -75,17 +78,17 @@ worked book = record {
       record {
         to = record { bits = 0 };
         since = ([], refl);
-        until = (theirs five ∷ [], refl);
+        until = (theirs five_pulled ∷ [], refl);
         legal = tt;
         moves = refl;
       },
       simp gets refl,
     ),
     (
-      pulled,
+      book_pulled,
       record {
         to = record { bits = 0 };
-        since = (theirs five ∷ [], refl);
+        since = (theirs five_pulled ∷ [], refl);
         until = ([], refl);
         legal = legal_five;
         moves = refl;
@@ -95,10 +98,10 @@ worked book = record {
   );
   asked_late = λ is. asked_late book is.0 is.1 is.2;
   raised_behind = (
-    pulled,
+    book_pulled,
     record {
       to = record { bits = 2 };
-      since = (theirs five ∷ [], refl);
+      since = (theirs five_pulled ∷ [], refl);
       until = ([], refl);
       legal = legal_raise;
       moves = refl;
@@ -124,7 +127,7 @@ worked book = record {
   moved_once = (refl, λ e. omega arith);
   moved_early = λ is. absurd (omega (arith, is.1 refl));
   closed = (
-    pulled,
+    book_pulled,
     record {
       to = record { bits = 2 };
       since = ([], refl);

@@ -8,7 +8,7 @@ use Rattle.group_history.specs.declared.refs.Ref.{Ref}
 use Rattle.group_history.specs.Naming.{children}
 use Rattle.group_history.specs.Refs.{stamp_of}
 use Rattle.group_history.proofs.Lists.{no_element}
-use Rattle.map_chunks.specs.Drafts.{Drafted, AreBelow, AreOrdered, longest}
+use Rattle.map_chunks.specs.Drafts.{Drafted, AreBelow, AreChildrenBelow, longest}
 
 pub below-none : (n : ℕ) → AreBelow n []
 below-none n at h = absurd (no_element at h)
@@ -17,8 +17,8 @@ pub below-more : (n m : ℕ) (ats : List Ref) → n ≤ m → AreBelow n ats →
 below-more n m ats le h at i = let lt = h at i in omega (arith, le, lt)
 
 -- a node behind those that are there
-pub ordered-more : (n : ℕ) (xs : List (Node Ref)) (x : Node Ref) → AreOrdered n xs
-    → AreBelow (n + length xs) (children x) → AreOrdered n (xs ++ x ∷ [])
+pub ordered-more : (n : ℕ) (xs : List (Node Ref)) (x : Node Ref) → AreChildrenBelow n xs
+    → AreBelow (n + length xs) (children x) → AreChildrenBelow n (xs ++ x ∷ [])
 ordered-more n [] x h b = (subst (λ k. AreBelow k (children x)) (let e : n + 0 ≡ n = omega arith in e) b, tt)
 ordered-more n (y ∷ ys) x h b = (
   h.0,
@@ -26,7 +26,7 @@ ordered-more n (y ∷ ys) x h b = (
       (subst (λ k. AreBelow k (children x)) (let e : n + suc (length ys) ≡ suc n + length ys = omega arith in e) b),
 )
 
-pub ordered-take : (n k : ℕ) (xs : List (Node Ref)) → AreOrdered n xs → AreOrdered n (take k xs)
+pub ordered-take : (n k : ℕ) (xs : List (Node Ref)) → AreChildrenBelow n xs → AreChildrenBelow n (take k xs)
 ordered-take n zero [] h = tt
 ordered-take n (suc k) [] h = tt
 ordered-take n zero (x ∷ xs) h = tt

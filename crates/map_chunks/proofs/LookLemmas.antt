@@ -15,7 +15,7 @@ use Rattle.map_chunks.specs.Inside.Depths.{IsFirst, has_none}
 use Rattle.map_chunks.specs.Inside.Ends.{only_ref}
 use Rattle.map_chunks.specs.Inside.SecondKeys.{IsSecondStep}
 use Rattle.map_chunks.specs.Inside.Seeking.{IsHint}
-use Rattle.map_chunks.specs.Inside.Steps.{IsStep}
+use Rattle.map_chunks.specs.Inside.Steps.{Descends}
 use Rattle.map_chunks.specs.Places.{IsShown}
 use Rattle.map_chunks.proofs.KeptLemmas.{IfAt}
 use Rattle.map_chunks.specs.Seeking.{chunk_depth}
@@ -77,23 +77,23 @@ module _ (places : Ref → Type 0) (p q : Contents) (k : ℕ) where
       )
 
   pub below_told : {E X : Type 0} (key : Bytes) (told : Result Descent E) (at : Ref) → IsTree (chunk_rows p k)
-      → IsPrefix p q → Saw (λ c. X × IfOk told (IsStep c key)) → told ≡ Ok (Below at)
+      → IsPrefix p q → Saw (λ c. X × IfOk told (Descends c key)) → told ≡ Ok (Below at)
       → Hints q key k (chunk_depth p k) (rows_or (chunk_rows p k)) (On at) × places at
   below_told key told at tree grown (c, shown, (x, is)) same =
-      hint_told key (On at) (On at) tree grown (c, shown, (x, by c.now (IfOk-at_ok (IsStep c.now key) same is))) refl
+      hint_told key (On at) (On at) tree grown (c, shown, (x, by c.now (IfOk-at_ok (Descends c.now key) same is))) refl
     where
-      by : (c : Chunk Ref) → IsStep c key (Below at) → IsHint c key (On at)
+      by : (c : Chunk Ref) → Descends c key (Below at) → IsHint c key (On at)
       by (Leaf rows) i = i
       by (Inner kids) i = i
 
   pub found_told : {E X : Type 0} (key : Bytes) (told : Result Descent E) (v : Option Bytes) → IsTree (chunk_rows p k)
-      → IsPrefix p q → Saw (λ c. X × IfOk told (IsStep c key)) → told ≡ Ok (Found v)
+      → IsPrefix p q → Saw (λ c. X × IfOk told (Descends c key)) → told ≡ Ok (Found v)
       → v ≡ find (slice_cmp nat_cmp) key (rows_or (chunk_rows p k))
   found_told key told v tree grown (c, shown, (x, is)) same =
       let s = spelled (strictly tree).0 grown in
-      by s c.now shown (IfOk-at_ok (IsStep c.now key) same is)
+      by s c.now shown (IfOk-at_ok (Descends c.now key) same is)
     where
-      by : (s : Spelled) (c : Chunk Ref) → IsShown places q k c → IsStep c key (Found v)
+      by : (s : Spelled) (c : Chunk Ref) → IsShown places q k c → Descends c key (Found v)
           → v ≡ find (slice_cmp nat_cmp) key (rows_or (chunk_rows p k))
       by s (Leaf rows) shown i = i ∙ ap (find (slice_cmp nat_cmp) key)
           (sym (opened q k s.segment (Leaf rows) s.is shown.1).is ∙ s.rows)

@@ -13,7 +13,7 @@ use Rattle.group_history.specs.Refs.{stamp_of}
 use Rattle.group_history.specs.Rows.{Rows, keys_of}
 use Rattle.group_history.specs.Spelling.{Contents, Segment, segment_at, rows_at, joined_rows}
 use Rattle.map_chunks.specs.Search.{IsPlace}
-use Rattle.map_chunks.specs.Seeking.{chunk_depth, is_in}
+use Rattle.map_chunks.specs.Seeking.{chunk_depth, is_key_in}
 use Rattle.map_chunks.specs.Inside.Seeking.{IsHint}
 use Rattle.map_chunks.specs.Shown.{chunk_rows, rows_or, IsTree}
 use Rattle.map_chunks.specs.declared.looks.Hint.{Hint}
@@ -25,7 +25,7 @@ use Rattle.map_chunks.proofs.RowLemmas.{IsStrict}
 -- from the chunk of a stamp, so deep, with these rows: it is a leaf, and this is whether the key is there, or a chunk
 -- one level below, which was placed before it, has the key's value
 abbrev pub Hints : Contents → Bytes → ℕ → Option ℕ → Rows → Hint → Type 0
-Hints contents key stamp depth rows (Known there) = (depth ≡ Some 1) × (there ≡ is_in rows key)
+Hints contents key stamp depth rows (Known there) = (depth ≡ Some 1) × (there ≡ is_key_in rows key)
 Hints contents key stamp depth rows (On at) = (stamp_of at < stamp) × IsTree (chunk_rows contents (stamp_of at))
     × ((d : ℕ) × (chunk_depth contents (stamp_of at) ≡ Some d) × (depth ≡ Some (d + 1)))
     × (find (slice_cmp nat_cmp) key (rows_or (chunk_rows contents (stamp_of at)))
@@ -38,7 +38,7 @@ hints ns k s c key hint h g o i = by c (opened ns k s c h g) hint i
   where
     by : (c : Chunk Ref) → Opened ns k s c → (hint : Hint) → IsHint c key hint
         → Hints ns key k (Some s.depth) s.rows hint
-    by (Leaf rows) z (Known there) i = (ap (λ n. Some n) z.depth, i ∙ ap (λ w. is_in w key) (sym z.is))
+    by (Leaf rows) z (Known there) i = (ap (λ n. Some n) z.depth, i ∙ ap (λ w. is_key_in w key) (sym z.is))
     by (Leaf rows) z (On at) i = absurd i
     by (Inner kids) z (Known there) i = absurd (omega (arith, z.filled))
     by (Inner kids) z (On at) i =

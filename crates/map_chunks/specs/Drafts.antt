@@ -24,9 +24,9 @@ abbrev pub AreBelow : ℕ → List Ref → Type 0
 AreBelow n ats = (at : Ref) → Contains ats at → stamp_of at < n
 
 -- each node's children have stamps below its own; the first node's stamp is n
-abbrev pub AreOrdered : ℕ → List (Node Ref) → Type 0
-AreOrdered n [] = Unit {0}
-AreOrdered n (c ∷ cs) = AreBelow n (children c) × AreOrdered (suc n) cs
+abbrev pub AreChildrenBelow : ℕ → List (Node Ref) → Type 0
+AreChildrenBelow n [] = Unit {0}
+AreChildrenBelow n (c ∷ cs) = AreBelow n (children c) × AreChildrenBelow (suc n) cs
 
 -- WHAT IS NEEDED
 

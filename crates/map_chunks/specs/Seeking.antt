@@ -12,5 +12,5 @@ abbrev pub chunk_depth : Contents → ℕ → Option ℕ
 chunk_depth contents stamp = option_map (λ (s : Segment). s.depth) (segment_at contents stamp)
 
 -- whether the key is among these rows
-abbrev pub is_in : Rows → Bytes → Bool
-is_in rows key = is_some (finite.find (slice_cmp nat_cmp) key rows)
+abbrev pub is_key_in : Rows → Bytes → Bool
+is_key_in rows key = is_some (finite.find (slice_cmp nat_cmp) key rows)

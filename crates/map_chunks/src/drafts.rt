@@ -9,7 +9,7 @@ ghost use Rattle.group_history.specs.Naming.{children, commit_children};
 ghost use Rattle.group_history.specs.Refs.{stamps, stamp_of, slot_of};
 ghost use Rattle.group_history.specs.declared.nodes.Node.TheVariants as node;
 ghost use Rattle.group_history.specs.declared.refusals.Refusal.TheVariants as refusal;
-ghost use Rattle.map_chunks.specs.Drafts.{AreBelow, AreOrdered, IsLate, longest};
+ghost use Rattle.map_chunks.specs.Drafts.{AreBelow, AreChildrenBelow, IsLate, longest};
 
 use group_history::{BoxedCommit, Commit, Node, Ref, Refusal, STAMPS};
 use std::alloc::{AllocError, Global};
@@ -30,7 +30,7 @@ pub struct Draft {
 
 impl Model for Draft {
     ghost use Rattle.std.specs.Prelude.{◌≤◌, length};
-    ghost use Rattle.map_chunks.specs.Drafts.{Drafted, AreOrdered, longest};
+    ghost use Rattle.map_chunks.specs.Drafts.{Drafted, AreChildrenBelow, longest};
     ghost use Rattle.group_history.specs.State.{ids_coded};
     ghost use Rattle.std.specs.Coded.{codes};
 
@@ -40,7 +40,7 @@ impl Model for Draft {
 
     ghost view = { λ d. record { first = d.first; nodes = d.nodes.items } };
 
-    ghost invariant = { λ d. AreOrdered d.first d.nodes.items × (length d.nodes.items ≤ longest) };
+    ghost invariant = { λ d. AreChildrenBelow d.first d.nodes.items × (length d.nodes.items ≤ longest) };
 }
 
 impl Draft {
@@ -120,7 +120,7 @@ impl Draft {
     /// The nodes, in the order of their stamps.
     pub fn nodes(&self) -> &[Node<Ref>]
         ensures nodes { result.now ≡ self.now.nodes }
-        ensures order { AreOrdered self.now.first self.now.nodes }
+        ensures order { AreChildrenBelow self.now.first self.now.nodes }
         ensures len { length result.now ≤ longest }
     {
         &self.nodes
@@ -129,7 +129,7 @@ impl Draft {
     /// The same, by value.
     pub fn into_nodes(self) -> Vec<Node<Ref>>
         ensures nodes { result.items ≡ self.nodes }
-        ensures order { AreOrdered self.first self.nodes }
+        ensures order { AreChildrenBelow self.first self.nodes }
         ensures len { length result.items ≤ longest }
     {
         self.nodes

@@ -1,12 +1,12 @@
 //! Chunks that were placed, and what is read from them.
 //!
-//! A chunk is a leaf of keys and values, or an inner one of first keys and children that were placed before it. It
-//! never changes once it is placed. `Chunks` shows placed chunks by stamp, by a token that has to be handed to `leave`:
-//! a store may count its readers by it. `VecChunks` keeps them in a vector, behind which a `Draft` has the nodes that
-//! are placed next. The modules go down from a placed chunk: `placed` to a key's value, `seeking` to whether a key is
-//! there, `seconds` to the second key, and `ends` past chunks with one child, each by `look_at`, which shows a closure
-//! one chunk; `scanning` along the leaves, whose rows go into what `sinks` is about, while the chunks above are shown;
-//! `covers` to the few topmost chunks in which a scan's rows lie.
+//! A chunk (a node of a B+ tree of 16, copied on write) is a leaf of keys and values, or an inner one of first keys and
+//! children that were placed before it. It never changes once it is placed. `Chunks` shows placed chunks by stamp, by a
+//! token that has to be handed to `leave`: a store may count its readers by it. `VecChunks` keeps them in a vector,
+//! behind which a `Draft` has the nodes that are placed next. The modules go down from a placed chunk: `placed` to a
+//! key's value, `seeking` to whether a key is there, `seconds` to the second key, and `ends` past chunks with one
+//! child, each by `look_at`, which shows a closure one chunk; `scanning` along the leaves, whose rows go into what
+//! `sinks` is about, while the chunks above are shown; `covers` to the few topmost chunks in which a scan's rows lie.
 //! `keys`, `entries` and `search` are what a changed chunk's keys need, whoever owns the chunk: up to 16 entries stay
 //! together; of 17 the first 8 stay and the last 9 are handed out (`insert_entry`).
 //!

@@ -9,7 +9,7 @@ ghost use Rattle.map_chunks.specs.Places.{Grows};
 ghost use Rattle.map_chunks.specs.Shown.{chunk_rows, IsTree, rows_or};
 ghost use Rattle.group_history.specs.Spelling.{Segment, segment_at};
 ghost use Rattle.map_chunks.specs.Inside.Depths.{IsFirst, has_none};
-ghost use Rattle.map_chunks.specs.Inside.Steps.{IsStep};
+ghost use Rattle.map_chunks.specs.Inside.Steps.{Descends};
 
 use crate::chunks::{Chunks, ShowsChunk};
 use crate::looks::{Descent, look_at};
@@ -20,7 +20,7 @@ use std::alloc::AllocError;
 // What a chunk says of a key.
 #[inline(always)]
 fn step_of(chunk: &Chunk<Ref>, key: &SearchKey<'_>) -> Result<Descent, AllocError>
-    ensures { IfOk result (IsStep chunk.now key.now) }
+    ensures { IfOk result (Descends chunk.now key.now) }
 {
     match chunk {
         Chunk::Leaf(leaf) => {

@@ -2,7 +2,7 @@
 ghost use Rattle.std.specs.Prelude.{◌≡◌, ◌≤◌, ◌+◌, Some, IfOk, IfErr};
 ghost use Rattle.group_history.specs.Refs.{stamp_of};
 ghost use Rattle.map_chunks.specs.Places.{Grows};
-ghost use Rattle.map_chunks.specs.Seeking.{chunk_depth, is_in};
+ghost use Rattle.map_chunks.specs.Seeking.{chunk_depth, is_key_in};
 ghost use Rattle.map_chunks.specs.Inside.Seeking.{IsHint};
 ghost use Rattle.map_chunks.specs.Shown.{chunk_rows, IsTree, rows_or};
 
@@ -34,7 +34,7 @@ pub fn seek_placed<C: Chunks>(chunks: &mut C, at: Ref, key: &str) -> Result<Soug
     requires place { C.places chunks.old at }
     ensures grown { Grows C.contents C.places chunks.old chunks.new }
     ensures is_there { IfOk result (λ s. s.is_there
-        ≡ is_in (rows_or (chunk_rows (C.contents chunks.old) (stamp_of at))) key.now) }
+        ≡ is_key_in (rows_or (chunk_rows (C.contents chunks.old) (stamp_of at))) key.now) }
     ensures depth { IfOk result (λ s. chunk_depth (C.contents chunks.old) (stamp_of at) ≡ Some s.depth) }
     ensures bound { IfOk result (λ s. s.depth ≤ stamp_of at + 1) }
     ensures stopped { IfErr result C.stops }
@@ -48,7 +48,7 @@ fn seek_for<C: Chunks>(chunks: &mut C, at: Ref, key: &SearchKey<'_>) -> Result<S
     requires place { C.places chunks.old at }
     ensures grown { Grows C.contents C.places chunks.old chunks.new }
     ensures is_there { IfOk result (λ s. s.is_there
-        ≡ is_in (rows_or (chunk_rows (C.contents chunks.old) (stamp_of at))) key.now) }
+        ≡ is_key_in (rows_or (chunk_rows (C.contents chunks.old) (stamp_of at))) key.now) }
     ensures depth { IfOk result (λ s. chunk_depth (C.contents chunks.old) (stamp_of at) ≡ Some s.depth) }
     ensures bound { IfOk result (λ s. s.depth ≤ stamp_of at + 1) }
     ensures stopped { IfErr result C.stops }

@@ -19,9 +19,9 @@ use Rattle.map_chunks.specs.Shown.{value, chunk, Piece, IsTree, chunk_rows, rows
 use Rattle.map_nodes.proofs.NodeLemmas.{Down, shown-rows}
 use Rattle.map_nodes.proofs.PathLemmas.{first_key, half_kids, lowered_pairs, with_half-is}
 use Rattle.map_nodes.specs.Inside.Halves.{half_pieces, lowered, with_half, IsHalf}
-use Rattle.map_nodes.specs.Inside.Laying.{IsMade}
+use Rattle.map_nodes.specs.Inside.Laying.{IsBuilt}
 use Rattle.map_nodes.specs.Inside.Nodes.{Kid}
-use Rattle.map_nodes.specs.Inside.Puts.{value_in, IsChildPut, IsOwnPut}
+use Rattle.map_nodes.specs.Inside.Puts.{shown_at, IsChildPut, IsOwnPut}
 use Rattle.map_nodes.specs.Levels.{seen_levels, RenewedLater}
 use Rattle.map_nodes.specs.Nodes.{Kids, child_pieces, kids_pieces, row_pieces}
 use Rattle.map_nodes.specs.Others.{ArePutAmong, option_piece}
@@ -200,8 +200,8 @@ own_put q copies below i first key v rows kids m n half was now filled is u = re
 pub placed_put : (p q : Contents) (may : Ref → Type 0) (copies below i : ℕ) (first key v : Bytes)
     (kids new : List OwnChild) (at : Ref) (n : Kid) (half : Option Half) → IsPrefix p q
     → IsTree (rows_at p below (stamp_of at)) → new ≡ set kids i (Own n)
-    → (value_in (chunk_rows p (stamp_of at)) key ≡ Some v → ⊥)
-    → IsMade q may copies (stamp_of at) below (rows_or (chunk_rows p (stamp_of at))) key v n.value half
+    → (shown_at (chunk_rows p (stamp_of at)) key ≡ Some v → ⊥)
+    → IsBuilt q may copies (stamp_of at) below (rows_or (chunk_rows p (stamp_of at))) key v n.value half
     → IsChildPut q copies below i first key v (rows_at p below (stamp_of at)) kids new (Placed at) half
 placed_put p q may copies below i first key v kids new at n half pre t is other u =
     let k = stamp_of at in
@@ -219,8 +219,8 @@ placed_put p q may copies below i first key v kids new at n half pre t is other 
         n,
         is,
         λ there.
-            let r = u.replaced (subst (λ z. IsSome (value_in z key)) (sym same) there) in (
-              λ here. other (ap (λ z. value_in z key) same ∙ here),
+            let r = u.replaced (subst (λ z. IsSome (shown_at z key)) (sym same) there) in (
+              λ here. other (ap (λ z. shown_at z key) same ∙ here),
               r.0,
               r.1,
             ),

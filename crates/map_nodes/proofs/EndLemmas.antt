@@ -10,13 +10,13 @@ use Rattle.group_history.specs.Rows.{Rows, paired}
 use Rattle.group_history.specs.Refs.{stamp_of}
 use Rattle.group_history.specs.Spelling.{Contents, joined_rows}
 use Rattle.group_history.proofs.Lists.{one_here, only_one}
-use Rattle.map_nodes.specs.Inside.Ends.{part_ref, IsTaken, end_of_pieces, end_of, IsPartBelow, IsEndBelow, IsKidBelow}
-use Rattle.map_nodes.specs.Inside.Ends.{EndsAt, IfEndsAt, NarrowsLater}
+use Rattle.map_nodes.specs.Inside.Ends.{part_ref, IsEndTaken, end_of_pieces, end_of, IsPartBelow, IsEndBelow}
+use Rattle.map_nodes.specs.Inside.Ends.{IsKidBelow, EndsAtChunk, IfEndsAt, NarrowsLater}
 use Rattle.map_chunks.specs.Ends.{IsEndUnder}
 use Rattle.map_nodes.specs.Inside.Halves.{HasDepth}
 use Rattle.map_chunks.specs.Places.{AreKept, part_places, places_of}
 use Rattle.map_nodes.specs.Inside.Freezing.{child_places, kids_places}
-use Rattle.map_nodes.specs.Inside.Removing.{one_shown, HeirNarrows, IsFirstAt}
+use Rattle.map_nodes.specs.Inside.Removing.{one_shown, HeirNarrows, IsFirstShown}
 use Rattle.map_nodes.specs.declared.nodes.removing.NewRoot.TheVariants as heir
 use Rattle.map_nodes.proofs.LevelLemmas.{topped-same}
 use Rattle.map_nodes.proofs.NarrowLemmas.{narrows_none, narrows_over, narrows_placed, narrows_since, narrows_trans}
@@ -112,11 +112,11 @@ one-pieces below (k ∷ []) (x ∷ []) n kid l o g e =
 
 -- what was taken from the one child of a chunk has the chunk's pieces
 pub taken-pieces : (below : ℕ) (keys : List Bytes) (kids : List OwnChild) (kid : OwnChild) (n : Seen)
-    → length kids ≡ length keys → length kids ≡ 1 → kid ≡ get_or kids 0 kid → IsTaken kid n
+    → length kids ≡ length keys → length kids ≡ 1 → kid ≡ get_or kids 0 kid → IsEndTaken kid n
     → n.pieces ≡ kids_pieces below (paired keys kids)
 taken-pieces below keys kids kid n l o g t = by kid refl t
   where
-    by : (c : OwnChild) → kid ≡ c → IsTaken c n → n.pieces ≡ kids_pieces below (paired keys kids)
+    by : (c : OwnChild) → kid ≡ c → IsEndTaken c n → n.pieces ≡ kids_pieces below (paired keys kids)
     by (Placed at) e t = absurd t
     by (Own m) e t = t.0 ∙ one-pieces below keys kids m kid l o g e
 
@@ -137,11 +137,11 @@ none_left (x ∷ y ∷ kids) i w o = absurd (omega (arith, o))
 
 -- what was taken from the last child shows what the child did
 pub heir_taken : (p q : Contents) (left : List OwnChild) (kid : OwnChild) (n : Seen) → IsPrefix p q → left ≡ kid ∷ []
-    → IsSome (one_shown p left) → IsTaken kid n
+    → IsSome (one_shown p left) → IsEndTaken kid n
     → (shown q n.pieces ≡ one_shown p left) × IsWideChunk n
 heir_taken p q left kid n pre e s t = by kid e t
   where
-    by : (c : OwnChild) → left ≡ c ∷ [] → IsTaken c n
+    by : (c : OwnChild) → left ≡ c ∷ [] → IsEndTaken c n
         → (shown q n.pieces ≡ one_shown p left) × IsWideChunk n
     by (Placed at) e t = absurd t
     by (Own m) e t =
@@ -171,7 +171,7 @@ kid-end (Placed r) end h at i = let s : r ≡ end = cc h in subst (λ w. Contain
 kid-end (Own n) end h at i = subst (Contains (places_of n.value.pieces)) (only_one end at i)
     (pieces-end n.value.pieces end h)
 
-pub taken-places : (kid : OwnChild) (n : Seen) → IsTaken kid n → (at : Ref) → Contains (places_of n.pieces) at
+pub taken-places : (kid : OwnChild) (n : Seen) → IsEndTaken kid n → (at : Ref) → Contains (places_of n.pieces) at
     → Contains (child_places kid) at
 taken-places (Placed r) n t at h = absurd t
 taken-places (Own m) n t at h = subst (λ ps. Contains (places_of ps) at) t.0 h
@@ -249,16 +249,16 @@ one-below depth levels (k ∷ []) (x ∷ []) kid l o g z v h b = by x h.0 v (sub
 pub taken-below : (depth : ℕ) (levels : Contents → Levels) (keys : List Bytes) (kids : List OwnChild) (kid : OwnChild)
     (n : Seen) → length kids ≡ length keys → length kids ≡ 1 → kid ≡ get_or kids 0 kid → 0 < depth
     → ((p : Contents) (i : ℕ) → levels p i ≡ topped (None, parting keys) (kids_levels (depth - 1) kids p) i)
-    → AllKids (depth - 1) (paired keys kids) → IsTaken kid n → NarrowsLater [] depth n.depth levels (seen_levels n)
+    → AllKids (depth - 1) (paired keys kids) → IsEndTaken kid n → NarrowsLater [] depth n.depth levels (seen_levels n)
 taken-below depth levels [] kids kid n l o g z v h t = absurd (omega arith)
 taken-below depth levels (k ∷ ks) [] kid n l o g z v h t = absurd (omega arith)
 taken-below depth levels (k ∷ ks) (x ∷ y ∷ xs) kid n l o g z v h t = absurd (omega arith)
 taken-below depth levels (k ∷ j ∷ ks) (x ∷ []) kid n l o g z v h t = absurd (omega arith)
-taken-below depth levels (k ∷ []) (x ∷ []) kid n l o g z v h t = by x h.0 v (subst (λ c. IsTaken c n) g t)
+taken-below depth levels (k ∷ []) (x ∷ []) kid n l o g z v h t = by x h.0 v (subst (λ c. IsEndTaken c n) g t)
   where
     by : (c : OwnChild) → IsChild (depth - 1) k c
         → ((p : Contents) (i : ℕ) → levels p i ≡ topped (None, parting (k ∷ [])) (kids_levels (depth - 1) (c ∷ []) p)
-        i) → IsTaken c n → NarrowsLater [] depth n.depth levels (seen_levels n)
+        i) → IsEndTaken c n → NarrowsLater [] depth n.depth levels (seen_levels n)
     by (Placed at) h v t = absurd t
     by (Own m) h v t = narrows_over [] depth (depth - 1) n.depth (None, parting (k ∷ [])) (seen_levels m.value) levels
         (seen_levels n) (omega (arith, z))
@@ -268,10 +268,10 @@ taken-below depth levels (k ∷ []) (x ∷ []) kid n l o g z v h t = by x h.0 v 
 
 -- the placed chunk that a child ends in has the child's chunks behind those with one child each
 pub kid-ends : (p : Contents) (below : ℕ) (kid : OwnChild) (at : Ref) → end_of kid ≡ Some at → IsKidBelow kid
-    → HasDepth below kid → IsSome (child_rows p below kid) → EndsAt p below (child_levels below kid) at
+    → HasDepth below kid → IsSome (child_rows p below kid) → EndsAtChunk p below (child_levels below kid) at
 kid-ends p below (Placed r) at e b h s =
     let v = some_of (child_rows p below (Placed r)) s in
-    subst (EndsAt p below (child_levels below (Placed r))) (some_is e) (
+    subst (EndsAtChunk p below (child_levels below (Placed r))) (some_is e) (
       below,
       depth-at p below (stamp_of r) v.0 v.1,
       narrows_none p below (λ q. placed_levels q below (stamp_of r)),
@@ -279,14 +279,14 @@ kid-ends p below (Placed r) at e b h s =
 kid-ends p below (Own n) at e b h s = let v = some_of (shown p n.value.pieces) s in by n.value.pieces e b v.0 v.1
   where
     by : (ps : List Piece) → end_of_pieces ps ≡ Some at → IsEndBelow n.value.depth (seen_levels n.value) ps
-        → (rs : Rows) → shown p ps ≡ Some rs → EndsAt p below (seen_levels n.value) at
+        → (rs : Rows) → shown p ps ≡ Some rs → EndsAtChunk p below (seen_levels n.value) at
     by [] e b rs v = absurd (cc e)
     by (q ∷ []) e b rs v = part q.1 e b (let f = split_of (q.0, part_rows p q.0 q.1) [] rs v in (f.front, f.front_is))
       where
         part : (x : Part) → part_ref x ≡ Some at → IsPartBelow n.value.depth (seen_levels n.value) x
-            → (f : Rows) × (part_rows p q.0 x ≡ Some f) → EndsAt p below (seen_levels n.value) at
+            → (f : Rows) × (part_rows p q.0 x ≡ Some f) → EndsAtChunk p below (seen_levels n.value) at
         part (value w) e b f = absurd (cc e)
-        part (chunk d r) e b f = subst (EndsAt p below (seen_levels n.value)) (some_is e) (
+        part (chunk d r) e b f = subst (EndsAtChunk p below (seen_levels n.value)) (some_is e) (
           d,
           depth-at p d (stamp_of r) f.0 f.1,
           narrows_since [] p below d (seen_levels n.value) (λ q. placed_levels q d (stamp_of r)) (p, refl)
@@ -296,7 +296,7 @@ kid-ends p below (Own n) at e b h s = let v = some_of (shown p n.value.pieces) s
 
 -- and what this ends in, which was read
 pub ends_on : (p q : Contents) (below : ℕ) (levels : Contents → Levels) (at end : Ref) → IsPrefix p q
-    → (e : EndsAt p below levels at) → IsEndUnder q e.0 (stamp_of at) end → EndsAt q below levels end
+    → (e : EndsAtChunk p below levels at) → IsEndUnder q e.0 (stamp_of at) end → EndsAtChunk q below levels end
 ends_on p q below levels at end pre e u = (
   u.1,
   u.3,
@@ -307,20 +307,20 @@ ends_on p q below levels at end pre e u = (
 
 -- what stands in a root's place has the chunks of its one child
 pub heir_placed : (p q : Contents) (below : ℕ) (left : List OwnChild) (kid : OwnChild) (end : Option Ref) (at : Ref)
-    → left ≡ kid ∷ [] → IsFirstAt p below left
+    → left ≡ kid ∷ [] → IsFirstShown p below left
     → (HasDepth below kid → IsSome (child_rows p below kid) → IfEndsAt q below (child_levels below kid) end)
     → end ≡ Some at → HeirNarrows q below left (heir.Placed at)
 heir_placed p q below left kid end at l i f e =
-    let k = subst (IsFirstAt p below) l i in
+    let k = subst (IsFirstShown p below) l i in
     subst (λ w. HeirNarrows q below w (heir.Placed at)) (sym l)
     (subst (IfEndsAt q below (child_levels below kid)) e (f k.0 k.1))
 
 pub heir_own : (p q : Contents) (below : ℕ) (left : List OwnChild) (kid : OwnChild) (n : Seen) → left ≡ kid ∷ []
-    → IsFirstAt p below left → IsTaken kid n → HeirNarrows q below left (heir.Own n)
+    → IsFirstShown p below left → IsEndTaken kid n → HeirNarrows q below left (heir.Own n)
 heir_own p q below left kid n l i t =
-    subst (λ w. HeirNarrows q below w (heir.Own n)) (sym l) (by kid (subst (IsFirstAt p below) l i) t)
+    subst (λ w. HeirNarrows q below w (heir.Own n)) (sym l) (by kid (subst (IsFirstShown p below) l i) t)
   where
-    by : (c : OwnChild) → IsFirstAt p below (c ∷ []) → IsTaken c n → HeirNarrows q below (c ∷ []) (heir.Own n)
+    by : (c : OwnChild) → IsFirstShown p below (c ∷ []) → IsEndTaken c n → HeirNarrows q below (c ∷ []) (heir.Own n)
     by (Placed at) i t = absurd t
     by (Own m) i t =
         narrows_since [] q below n.depth (seen_levels m.value) (seen_levels n) (q, refl)
@@ -329,7 +329,7 @@ heir_own p q below left kid n l i t =
 -- the first of the children is so deep, and shows rows
 pub first_kid_at : (p : Contents) (below : ℕ) (keys : List Bytes) (kids : List OwnChild) (rows : Rows)
     → length kids ≡ length keys → AllKids below (paired keys kids)
-    → joined_rows (shows_of (kid_rows p below) (paired keys kids)) ≡ Some rows → IsFirstAt p below kids
+    → joined_rows (shows_of (kid_rows p below) (paired keys kids)) ≡ Some rows → IsFirstShown p below kids
 first_kid_at p below keys [] rs l h j = tt
 first_kid_at p below [] (x ∷ xs) rs l h j = absurd (omega arith)
 first_kid_at p below (k ∷ ks) (x ∷ xs) rs l h j =
@@ -344,11 +344,11 @@ first_kid_at p below (k ∷ ks) (x ∷ xs) rs l h j =
 -- so it is once one is gone
 pub first_at : (p : Contents) (below : ℕ) (keys : List Bytes) (kids : List OwnChild) (i : ℕ) (rows : Rows)
     → length kids ≡ length keys → AllKids below (paired keys kids)
-    → shown p (kids_pieces below (paired keys kids)) ≡ Some rows → IsFirstAt p below (remove kids i)
+    → shown p (kids_pieces below (paired keys kids)) ≡ Some rows → IsFirstShown p below (remove kids i)
 first_at p below keys kids i rows l h s = to keys kids i l h (sym (shown-kids p below (paired keys kids) h) ∙ s)
   where
     to : (ks : List Bytes) (xs : List OwnChild) (i : ℕ) → length xs ≡ length ks → AllKids below (paired ks xs)
-        → joined_rows (shows_of (kid_rows p below) (paired ks xs)) ≡ Some rows → IsFirstAt p below (remove xs i)
+        → joined_rows (shows_of (kid_rows p below) (paired ks xs)) ≡ Some rows → IsFirstShown p below (remove xs i)
     to ks [] zero l h j = tt
     to ks [] (suc i) l h j = tt
     to [] (x ∷ xs) i l h j = absurd (omega arith)

@@ -44,10 +44,10 @@ use Rattle.map_nodes.specs.Inside.Counts.{HasKept}
 use Rattle.map_nodes.specs.Inside.Freezing.{child_places, kids_places}
 use Rattle.map_nodes.specs.Inside.Halves.{half_pieces, lowered, ChildPut, IsHalf, IsLower}
 use Rattle.map_nodes.specs.Inside.Laying.{entries_over, inner_seen, kids_over, CanGrowOver, IsCopiedStep, IsGrownOver}
-use Rattle.map_nodes.specs.Inside.Laying.{IsMade}
+use Rattle.map_nodes.specs.Inside.Laying.{IsBuilt}
 use Rattle.map_nodes.specs.Inside.Nodes.{Kid, child_rows}
 use Rattle.map_nodes.specs.Inside.Puts.{half_levels}
-use Rattle.map_nodes.specs.Inside.Ready.{Fits}
+use Rattle.map_nodes.specs.Inside.Ready.{Suits}
 use Rattle.map_nodes.specs.Nodes.{AllKids, kids_levels, kids_pieces}
 use Rattle.map_nodes.specs.Trails.{placed_kids, step_kids, step_seen, IsStep}
 use Rattle.map_nodes.specs.declared.nodes.OwnChild.TheVariants.{Placed, Own}
@@ -156,7 +156,7 @@ over q key at below kids i d w t g place b h =
 -- an own child in the place of the placed one
 child_over : (q r : Contents) (may : Ref → Type 0) (copies depth i : ℕ) (key v : Bytes) (at below : Ref)
     (kids : List (Bytes × Ref)) (kid : Kid) (half : Option Half) → Over q key at below kids i depth
-    → IsMade r may (copies + 1) (stamp_of below) (depth - 1) (rows_or (chunk_rows q (stamp_of below))) key v kid.value
+    → IsBuilt r may (copies + 1) (stamp_of below) (depth - 1) (rows_or (chunk_rows q (stamp_of below))) key v kid.value
     half
     → ChildPut r (copies + 1) (depth - 1) i (placed_kids (values_of kids)) (kids_over kids i kid) half
     (Some (put (slice_cmp nat_cmp) key v (rows_or (child_rows q (depth - 1) (Placed below)))))
@@ -173,7 +173,7 @@ child_over q r may copies depth i key v at below kids kid half x m = (
 pub put_below : (q r : Contents) (may : Ref → Type 0) (copies depth i : ℕ) (key v : Bytes) (at below : Ref)
     (kids : List (Bytes × Ref)) (lower : Option Bytes) (kid : Kid) (half : Option Half)
     → (x : Over q key at below kids i depth) → IsPrefix q r → IsLower key (get_or (keys_of kids) i []) lower
-    → IsMade r may (copies + 1) (stamp_of below) (depth - 1) (rows_or (chunk_rows q (stamp_of below))) key v kid.value
+    → IsBuilt r may (copies + 1) (stamp_of below) (depth - 1) (rows_or (chunk_rows q (stamp_of below))) key v kid.value
     half
     → Put r (depth - 1) (entries_over kids i lower kid half) (put (slice_cmp nat_cmp) key v x.way.rows)
 put_below q r may copies depth i key v at below kids lower kid half x pre low m =
@@ -191,7 +191,7 @@ length-over kids i kid lower l = length-set (placed_kids (values_of kids)) i (Ow
 pub fits_over : (q r : Contents) (may : Ref → Type 0) (copies depth i : ℕ) (key v : Bytes) (at below : Ref)
     (kids : List (Bytes × Ref)) (child : Seen) (half : Option Half) → Over q key at below kids i depth → IsPrefix q r
     → length kids ≤ 16 → depth < 2 ^ 64
-    → IsMade r may (copies + 1) (stamp_of below) (depth - 1) (rows_or (chunk_rows q (stamp_of below))) key v child half
+    → IsBuilt r may (copies + 1) (stamp_of below) (depth - 1) (rows_or (chunk_rows q (stamp_of below))) key v child half
     → CanGrowOver copies kids key i child half
 fits_over q r may copies depth i key v at below kids child half x pre few big m =
     let deep : depth ≡ child.depth + 1 = omega (arith, m.depth_is, x.deep) in
@@ -200,10 +200,10 @@ fits_over q r may copies depth i key v at below kids child half x pre few big m 
       half_is = subst (λ d. IsHalf (copies + 1) d half) (sym m.depth_is) m.half_is;
       fits = λ lower kid low e.
           let u = put_below q r may copies depth i key v at below kids lower kid half x pre low
-          (subst (λ s. IsMade r may (copies + 1) (stamp_of below) (depth - 1)
+          (subst (λ s. IsBuilt r may (copies + 1) (stamp_of below) (depth - 1)
           (rows_or (chunk_rows q (stamp_of below))) key v s half) (sym e) m) in
           let n = length-lowered i lower (keys_of kids) in
-          subst (λ d. Fits d i (lowered i lower (keys_of kids)) (kids_over kids i kid) half) deep (record {
+          subst (λ d. Suits d i (lowered i lower (keys_of kids)) (kids_over kids i kid) half) deep (record {
             above = x.deep;
             pairs = length-over kids i kid lower x.pairs;
             few = omega (arith, n, length-keys_of kids, few);
@@ -236,9 +236,9 @@ pub made_over : (q r : Contents) (may : Ref → Type 0) (copies depth i : ℕ) (
     (kids : List (Bytes × Ref)) (child n : Seen) (half made : Option Half) → (x : Over q key at below kids i depth)
     → IsPrefix q r → AreAll may (values_of kids)
     → (find (slice_cmp nat_cmp) key (rows_or (chunk_rows q (stamp_of at))) ≡ Some v → ⊥)
-    → IsMade r may (copies + 1) (stamp_of below) (depth - 1) (rows_or (chunk_rows q (stamp_of below))) key v child half
+    → IsBuilt r may (copies + 1) (stamp_of below) (depth - 1) (rows_or (chunk_rows q (stamp_of below))) key v child half
     → IsGrownOver copies depth kids key i child half n made
-    → IsMade r may copies (stamp_of at) depth (rows_or (chunk_rows q (stamp_of at))) key v n made
+    → IsBuilt r may copies (stamp_of at) depth (rows_or (chunk_rows q (stamp_of at))) key v n made
 made_over q r may copies depth i key v at below kids child n half made x pre all other is g =
     let b = depth - 1 in
     let k = stamp_of at in
@@ -250,7 +250,7 @@ made_over q r may copies depth i key v at below kids child n half made x pre all
     let xs = placed_kids (values_of kids) in
     let news = kids_over kids i kid in
     let es = entries_over kids i lower kid half in
-    let m = subst (λ s. IsMade r may (copies + 1) (stamp_of below) b (rows_or (chunk_rows q (stamp_of below))) key v s
+    let m = subst (λ s. IsBuilt r may (copies + 1) (stamp_of below) b (rows_or (chunk_rows q (stamp_of below))) key v s
     half) (sym g.child_is) is in
     let u = put_below q r may copies depth i key v at below kids lower kid half x pre g.first m in
     let here = still q r k (chunked.Inner kids) pre x.content in
@@ -322,7 +322,7 @@ made_over q r may copies depth i key v at below kids child n half made x pre all
 pub step_over : (q r : Contents) (may : Ref → Type 0) (copies depth : ℕ) (key v : Bytes) (at below : Ref)
     (kids : List (Bytes × Ref)) (s : Step) (next : Seen) → (x : Over q key at below kids s.place depth) → IsPrefix q r
     → IsCopiedStep kids key s
-    → IsMade r may (copies + 1) (stamp_of below) (depth - 1) (rows_or (chunk_rows q (stamp_of below))) key v next None
+    → IsBuilt r may (copies + 1) (stamp_of below) (depth - 1) (rows_or (chunk_rows q (stamp_of below))) key v next None
     → IsStep s next × IsGrownOver copies depth kids key s.place next None (step_seen s next) None
 step_over q r may copies depth key v at below kids s next x pre c m =
     let kid = kid_of s next in

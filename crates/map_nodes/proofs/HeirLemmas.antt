@@ -4,7 +4,7 @@ use Rattle.std.proofs.lemmas.Bool.Decides.{nat_tests}
 use Rattle.group_history.specs.declared.refs.Ref.{Ref}
 use Rattle.group_history.specs.Map.{Bytes}
 use Rattle.group_history.specs.Spelling.{Contents}
-use Rattle.map_nodes.specs.Inside.Removing.{left_rows, one_shown, gives_way, AreLeft, IsHeir, KeptBy, IsWideLeft}
+use Rattle.map_nodes.specs.Inside.Removing.{left_rows, one_shown, gives_way, AreKidsLeft, IsHeir, KeptBy, IsWideLeft}
 use Rattle.map_nodes.specs.declared.nodes.OwnChild.{OwnChild}
 use Rattle.map_nodes.specs.declared.nodes.removing.ChildAfter.{ChildAfter}
 use Rattle.map_nodes.specs.declared.nodes.removing.ChildAfter.TheVariants.{Leaves, Stays}
@@ -28,7 +28,7 @@ pub heir-kept : (old new : List OwnChild) (h : NewRoot) (at : Ref) → KeptBy ol
 heir-kept old new h at k e = subst (KeptBy old new) (some_is e) k
 
 -- a root that gives way to nothing stays wide
-pub still_wide : (fate : ChildAfter) (old new n : ℕ) → n ≡ old → gives_way fate n ≡ false → AreLeft fate old new
+pub still_wide : (fate : ChildAfter) (old new n : ℕ) → n ≡ old → gives_way fate n ≡ false → AreKidsLeft fate old new
     → 1 < old → 1 < new
 still_wide Leaves old new n e g l more = let f : nat_le n 2 ≡ false = g in let h : 2 < n = grind (arith, nat_tests) in
     omega (arith, l, e, h)

@@ -33,7 +33,7 @@ use Rattle.map_nodes.proofs.NodeLemmas.{shown-rows}
 use Rattle.map_nodes.proofs.PutLevels.{leaf_put_levels, put_as, put_copied}
 use Rattle.map_nodes.specs.Inside.Counts.{HasKept}
 use Rattle.map_nodes.specs.Inside.Halves.{half_pieces, IsHalf}
-use Rattle.map_nodes.specs.Inside.Laying.{rows_seen, IsLeafEnd, IsMade, IsMadeLeaf, IsPutEnd, IsReached}
+use Rattle.map_nodes.specs.Inside.Laying.{rows_seen, IsLeafEnd, IsBuilt, IsMadeLeaf, IsPutEnd, IsChunkEnd}
 use Rattle.map_nodes.specs.Inside.Puts.{half_levels, IsLeafPut}
 use Rattle.map_nodes.specs.Levels.{levels_of, nothing, placed_levels, seen_levels, topped, ArePut}
 use Rattle.map_nodes.specs.Levels.{RenewedLater}
@@ -96,7 +96,7 @@ no_half (Some h) false s e = absurd cc
 -- what is made of a placed leaf with these rows
 made_of_placed : (q : Contents) (places : Ref → Type 0) (copies stamp : ℕ) (rows : Rows) (key v : Bytes) (n : Seen)
     (half : Option Half) → slice_get q stamp ≡ Some (chunk_content (chunked.Leaf rows))
-    → IsMadeLeaf copies rows key v n half → IsMade q places copies stamp 1 rows key v n half
+    → IsMadeLeaf copies rows key v n half → IsBuilt q places copies stamp 1 rows key v n half
 made_of_placed q places copies stamp rows key v n half g m = record {
   depth_is = m.depth_is;
   shown_is = ap (shown q) m.pieces_are ∙ shown-rows q (put (slice_cmp nat_cmp) key v rows);
@@ -155,16 +155,16 @@ pub leaf_reached : (q : Contents) (places : Ref → Type 0) (copies : ℕ) (as_t
     (at : Ref) (rows : Rows) (u : Update) (r : Reached) (l : Laying) → IsTree (chunk_rows q (stamp_of at))
     → slice_get q (stamp_of at) ≡ Some (chunk_content (chunked.Leaf rows))
     → IsLeafEnd copies as_trail rows key u r l
-    → IsReached q places copies as_trail (stamp_of at) (chunk_depth q (stamp_of at))
+    → IsChunkEnd q places copies as_trail (stamp_of at) (chunk_depth q (stamp_of at))
     (rows_or (chunk_rows q (stamp_of at))) key u r l
 leaf_reached q places copies as_trail key at rows u r l t g h =
     let k = stamp_of at in
     let is = leaf_is q k rows t g in
-    subst (λ w. IsReached q places copies as_trail k w (rows_or (chunk_rows q k)) key u r l) (sym is.1)
-    (subst (λ w. IsReached q places copies as_trail k (Some 1) (rows_or w) key u r l) (sym is.0) (by r h))
+    subst (λ w. IsChunkEnd q places copies as_trail k w (rows_or (chunk_rows q k)) key u r l) (sym is.1)
+    (subst (λ w. IsChunkEnd q places copies as_trail k (Some 1) (rows_or w) key u r l) (sym is.0) (by r h))
   where
     by : (r : Reached) → IsLeafEnd copies as_trail rows key u r l
-        → IsReached q places copies as_trail (stamp_of at) (Some 1) rows key u r l
+        → IsChunkEnd q places copies as_trail (stamp_of at) (Some 1) rows key u r l
     by Same h = h
     by (Refused code) h = h
     by Laid h =
@@ -181,7 +181,7 @@ leaf_reached q places copies as_trail key at rows u r l t g h =
               e,
               h.5.1,
               subst (λ w. IsTrail w e) none h.5.2,
-              subst (λ w. IsMade q places copies (stamp_of at) 1 rows key h.0 (trail_seen w e) None) none
+              subst (λ w. IsBuilt q places copies (stamp_of at) 1 rows key h.0 (trail_seen w e) None) none
                   (made_of_placed q places copies (stamp_of at) rows key h.0 (trail_seen [] e) None g h.5.3),
             ),
           ),

@@ -13,7 +13,7 @@ use Rattle.group_history.specs.Spelling.{Contents, begins_with, joined_rows}
 use Rattle.group_history.proofs.Pairs.{keys_of-paired}
 use Rattle.map_nodes.specs.Inside.Halves.{HasDepth, half_pieces, IsHalf, with_half, lowered, IsLower, ChildPut}
 use Rattle.map_nodes.specs.Inside.Halves.{AreNinth}
-use Rattle.map_nodes.specs.Inside.Ready.{AreNinthIn, HasRoom, HasRoomIn, IsOpened, Taken}
+use Rattle.map_nodes.specs.Inside.Ready.{AreNinthIn, HasRoom, HasRoomIn, IsRoomTaken, TakenRoom}
 use Rattle.map_nodes.specs.declared.nodes.putting.splits.SplitBuffers.{SplitBuffers}
 use Rattle.map_nodes.specs.Nodes.{body_pieces, IsNode, Kids, child_pieces, kids_pieces, row_pieces, HeadIs, IsChild}
 use Rattle.map_nodes.specs.Nodes.{AllKids}
@@ -320,15 +320,15 @@ done_at q below es x rows key v ps e f h = ap (shown q) f ∙ h ∙ ap
 
 -- WHAT WAS TAKEN FOR A SPLIT
 
-pub ninth_lowered_in : (copies : ℕ) (keys : List Bytes) (i : ℕ) (key : Bytes) (lower : Option Bytes) (room : Taken)
+pub ninth_lowered_in : (copies : ℕ) (keys : List Bytes) (i : ℕ) (key : Bytes) (lower : Option Bytes) (room : TakenRoom)
     → IsPlace key keys i → IsLower key (get_or keys i []) lower → AreNinthIn copies keys (i + 1) key room → (k : Bytes)
     → (i + 1 ≡ 8 → ⊥) → AreNinthIn copies (lowered i lower keys) (i + 1) k room
 ninth_lowered_in copies keys i key lower None p low n k z = tt
 ninth_lowered_in copies keys i key lower (Some room) p low n k z =
     ninth_lowered copies keys i key lower room.value.firsts.items p low n k z
 
-pub room_opened : (entries : ℕ) (taken : Taken) (room : SplitBuffers OwnChild) → HasRoomIn entries taken
-    → IsOpened taken room → HasRoom entries room
+pub room_opened : (entries : ℕ) (taken : TakenRoom) (room : SplitBuffers OwnChild) → HasRoomIn entries taken
+    → IsRoomTaken taken room → HasRoom entries room
 room_opened entries None room h is = record {
   empty = is;
   spare = λ full. absurd (h full);
@@ -336,8 +336,8 @@ room_opened entries None room h is = record {
 }
 room_opened entries (Some taken) room h is = subst (HasRoom entries) (sym is) h
 
-pub ninth_opened : (copies : ℕ) (keys : List Bytes) (place : ℕ) (key : Bytes) (taken : Taken)
-    (room : SplitBuffers OwnChild) → HasRoomIn (length keys) taken → IsOpened taken room
+pub ninth_opened : (copies : ℕ) (keys : List Bytes) (place : ℕ) (key : Bytes) (taken : TakenRoom)
+    (room : SplitBuffers OwnChild) → HasRoomIn (length keys) taken → IsRoomTaken taken room
     → AreNinthIn copies keys place key taken → AreNinth copies keys place key room.firsts.items
 ninth_opened copies keys place key None room h is n = λ full. absurd (h (omega (arith, full)))
 ninth_opened copies keys place key (Some taken) room h is n =

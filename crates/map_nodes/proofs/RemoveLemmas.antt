@@ -18,7 +18,7 @@ use Rattle.group_history.proofs.Pairs.{keys_of-paired}
 use Rattle.map_nodes.specs.Inside.Halves.{HasDepth, lowered}
 use Rattle.map_nodes.specs.Nodes.{IsChild, IsNode, Kids, child_levels, kids_pieces, body_pieces, AllKids}
 use Rattle.map_nodes.specs.Inside.Nodes.{ChildChanged, child_rows}
-use Rattle.map_nodes.specs.Removing.{without}
+use Rattle.map_nodes.specs.Removing.{without_key}
 use Rattle.map_nodes.specs.Inside.Removing.{IsFate, IsThinLater, HasOthers, gives_way, CanRemove, one_shown}
 use Rattle.map_nodes.specs.Inside.Scanning.{kid_shown}
 use Rattle.map_chunks.specs.Search.{IsFound, IsAbsent, IsPlace}
@@ -47,51 +47,51 @@ use Rattle.map_chunks.proofs.TreeLemmas.{map_is, map_from}
 
 -- ROWS
 
-without-above : (k : Bytes) (b : Rows) → AllAbove k b → without k b ≡ b
+without-above : (k : Bytes) (b : Rows) → AllAbove k b → without_key k b ≡ b
 without-above k [] h = refl
-without-above k (r ∷ b) h = ap (λ o. cond (not (is_eq o)) (r ∷ without k b) (without k b)) h.0 ∙ ap (λ t. r ∷ t)
+without-above k (r ∷ b) h = ap (λ o. cond (not (is_eq o)) (r ∷ without_key k b) (without_key k b)) h.0 ∙ ap (λ t. r ∷ t)
     (without-above k b h.1)
 
-without-front : (k : Bytes) (a b : Rows) → AllAbove k b → without k (a ++ b) ≡ without k a ++ b
+without-front : (k : Bytes) (a b : Rows) → AllAbove k b → without_key k (a ++ b) ≡ without_key k a ++ b
 without-front k [] b h = without-above k b h
 without-front k (s ∷ a) b h = by (cmp k s.0) (without-front k a b h)
   where
-    by : (o : Ordering) → without k (a ++ b) ≡ without k a ++ b
-        → cond (not (is_eq o)) (s ∷ without k (a ++ b)) (without k (a ++ b))
-        ≡ cond (not (is_eq o)) (s ∷ without k a) (without k a) ++ b
+    by : (o : Ordering) → without_key k (a ++ b) ≡ without_key k a ++ b
+        → cond (not (is_eq o)) (s ∷ without_key k (a ++ b)) (without_key k (a ++ b))
+        ≡ cond (not (is_eq o)) (s ∷ without_key k a) (without_key k a) ++ b
     by Less ih = ap (λ t. s ∷ t) ih
     by Equal ih = ih
     by Greater ih = ap (λ t. s ∷ t) ih
 
-without-back : (k : Bytes) (a b : Rows) → AllBelow k a → without k (a ++ b) ≡ a ++ without k b
+without-back : (k : Bytes) (a b : Rows) → AllBelow k a → without_key k (a ++ b) ≡ a ++ without_key k b
 without-back k [] b h = refl
 without-back k (r ∷ a) b h =
-    ap (λ o. cond (not (is_eq o)) (r ∷ without k (a ++ b)) (without k (a ++ b)))
+    ap (λ o. cond (not (is_eq o)) (r ∷ without_key k (a ++ b)) (without_key k (a ++ b)))
     (turned k r.0 ∙ ap ordering_reverse h.0) ∙ ap (λ t. r ∷ t) (without-back k a b h.1)
 
 -- a row whose key it is
-without-at : (k v : Bytes) (b : Rows) → without k ((k, v) ∷ b) ≡ without k b
-without-at k v b = ap (λ o. cond (not (is_eq o)) ((k, v) ∷ without k b) (without k b)) (is_itself k)
+without-at : (k v : Bytes) (b : Rows) → without_key k ((k, v) ∷ b) ≡ without_key k b
+without-at k v b = ap (λ o. cond (not (is_eq o)) ((k, v) ∷ without_key k b) (without_key k b)) (is_itself k)
 
-without-local : (key : Bytes) → IsLocal key (without key)
+without-local : (key : Bytes) → IsLocal key (without_key key)
 without-local key a x b l u = without-back key a (x ++ b) l ∙ ap (λ w. a ++ w) (without-front key x b u)
 
 -- whether a row stays
 abbrev stays : Bytes → Bytes → Bool
 stays key k = not (eq_by_cmp (slice_cmp nat_cmp) key k)
 
-without-strict : (key : Bytes) (rows : Rows) → IsStrict rows → IsStrict (without key rows)
-without-strict key rows o = strict (without key rows)
+without-strict : (key : Bytes) (rows : Rows) → IsStrict rows → IsStrict (without_key key rows)
+without-strict key rows o = strict (without_key key rows)
     (is_sorted-where_key (slice_cmp nat_cmp) (stays key) rows (sorted rows o))
 
-without-found : (key : Bytes) (rows : Rows) (i : ℕ) → (f : Found key rows i) → without key rows ≡ f.front ++ f.back
+without-found : (key : Bytes) (rows : Rows) (i : ℕ) → (f : Found key rows i) → without_key key rows ≡ f.front ++ f.back
 without-found key rows i f =
-    ap (without key) f.whole ∙ without-back key f.front ((key, f.value) ∷ f.back) f.below
+    ap (without_key key) f.whole ∙ without-back key f.front ((key, f.value) ∷ f.back) f.below
     ∙ ap (λ w. f.front ++ w) (without-at key f.value f.back ∙ without-above key f.back f.above)
 
-without-absent : (key : Bytes) (rows : Rows) (n : ℕ) → (f : Absent key rows n) → without key rows ≡ rows
+without-absent : (key : Bytes) (rows : Rows) (n : ℕ) → (f : Absent key rows n) → without_key key rows ≡ rows
 without-absent key rows n f =
-    ap (without key) f.whole ∙ without-back key f.front f.back f.below ∙ ap (λ w. f.front ++ w)
+    ap (without_key key) f.whole ∙ without-back key f.front f.back f.below ∙ ap (λ w. f.front ++ w)
     (without-above key f.back f.above) ∙ sym f.whole
 
 -- MAPS
@@ -105,10 +105,10 @@ apart key q x = ap (λ o. cond (is_eq o) None x) (turned q key) ∙ by (cmp key 
     by Greater = refl
 
 entries_removed : (m : Entries) (key : Bytes)
-    → finite.entries (finite.remove m key) ≡ without key (finite.entries m)
+    → finite.entries (finite.remove m key) ≡ without_key key (finite.entries m)
 entries_removed m key =
     same_entries (slice_cmp nat_cmp) nat_list_cmp_total same_key (finite.entries (finite.remove m key))
-    (without key (finite.entries m)) (finite.entries_sorted (finite.remove m key))
+    (without_key key (finite.entries m)) (finite.entries_sorted (finite.remove m key))
     (is_sorted-where_key (slice_cmp nat_cmp) (stays key) (finite.entries m) (finite.entries_sorted m))
     (λ q. sym (finite.get-entries (finite.remove m key) q) ∙ finite.get-remove nat_list_cmp_total m key q ∙ ap
     (λ w. cond (is_eq (cmp q key)) None w) (finite.get-entries m q)
@@ -117,9 +117,10 @@ entries_removed m key =
     (finite.entries m)))
 
 pub map_removed : (x y : Option Rows) (m : Entries) (key : Bytes) → option_and_then map_of_rows x ≡ Some m
-    → y ≡ Some (without key (rows_or x)) → option_and_then map_of_rows y ≡ Some (finite.remove m key)
+    → y ≡ Some (without_key key (rows_or x)) → option_and_then map_of_rows y ≡ Some (finite.remove m key)
 map_removed x y m key h e =
-    map_from y (finite.remove m key) (e ∙ ap (λ w. Some (without key w)) (sym (map_is x m h).rows) ∙ ap (λ w. Some w)
+    map_from y (finite.remove m key) (e ∙ ap (λ w. Some (without_key key w)) (sym (map_is x m h).rows) ∙ ap
+    (λ w. Some w)
     (sym (entries_removed m key)))
 
 -- a key that isn't there is removed in vain
@@ -156,31 +157,31 @@ pub record LeafLeft (keys values : List Bytes) (rows : Rows) : Type 0 where
 
 pub leaf_removed : (keys values nk ne : List Bytes) (i : ℕ) (key : Bytes) → AreKeys keys → length values ≡ length keys
     → IsFound key keys i → nk ≡ remove keys i → ne ≡ remove values i
-    → LeafLeft nk ne (without key (paired keys values))
+    → LeafLeft nk ne (without_key key (paired keys values))
 leaf_removed keys values nk ne i key o l f ek ee =
     let r = found_in key keys values i o.1 l f in
     let lk = length-removed keys i f.0 in
     let le = length-removed values i (omega (arith, f.0, l)) in
     let same : length ne ≡ length nk = omega (arith, lk, le, ap length ek, ap length ee, l) in
-    let pairs : paired nk ne ≡ without key (paired keys values) =
+    let pairs : paired nk ne ≡ without_key key (paired keys values) =
     ap (λ ks. paired ks ne) ek ∙ ap (paired (remove keys i)) ee ∙ paired-remove keys values i l ∙ ap
     (λ w. remove w i) r.whole
     ∙ remove-at r.front (key, r.value) r.back i r.at ∙ sym (without-found key (paired keys values) i r) in
     let s : IsStrict (paired keys values) = strict (paired keys values)
     (rises_strict (paired keys values) (subst (λ w. T (rises w)) (sym (keys_of-paired keys values l)) o.1)) in
-    let ks : keys_of (without key (paired keys values)) ≡ nk = ap keys_of (sym pairs) ∙ keys_of-paired nk ne same in
+    let ks : keys_of (without_key key (paired keys values)) ≡ nk = ap keys_of (sym pairs) ∙ keys_of-paired nk ne same in
     record {
       rows_are = pairs;
       order = (
         omega (arith, lk, ap length ek, o.0),
-        subst (λ w. T (rises w)) ks (strict_rises (without key (paired keys values))
+        subst (λ w. T (rises w)) ks (strict_rises (without_key key (paired keys values))
             (without-strict key (paired keys values) s)),
       );
       same = same;
     }
 
 pub leaf_kept : (keys values : List Bytes) (n : ℕ) (key : Bytes) → AreKeys keys → length values ≡ length keys
-    → IsAbsent key keys n → paired keys values ≡ without key (paired keys values)
+    → IsAbsent key keys n → paired keys values ≡ without_key key (paired keys values)
 leaf_kept keys values n key o l a = sym (without-absent key (paired keys values) n
     (absent_in key keys values n o.1 l a))
 
@@ -188,12 +189,12 @@ leaf_kept keys values n key o l a = sym (without-absent key (paired keys values)
 
 -- a child whose one row has the key shows none without it
 pub leaves_none : (key first : Bytes) (here : Rows) → begins_with first here ≡ true → IsFate key first here Leaves
-    → without key here ≡ []
+    → without_key key here ≡ []
 leaves_none key first here s f =
     let b = begins first here s in
     let w : here ≡ (key, b.value) ∷ b.rest = b.whole ∙ ap (λ k. (k, b.value) ∷ b.rest) f.0 in
     let nil : b.rest ≡ [] = none b.rest (ap second_key (sym w) ∙ f.1) in
-    ap (without key) w ∙ without-at key b.value b.rest ∙ ap (without key) nil
+    ap (without_key key) w ∙ without-at key b.value b.rest ∙ ap (without_key key) nil
   where
     none : (rest : Rows) → second_key ((key, key) ∷ rest) ≡ None → rest ≡ []
     none [] e = refl
@@ -202,11 +203,11 @@ leaves_none key first here s f =
 -- a child that stays begins with its first key then
 begins_without : (key first : Bytes) (here : Rows) (other : Option Bytes) → begins_with first here ≡ true
     → IsStrict here → IsFate key first here (Stays other)
-    → begins_with (first_key first other) (without key here) ≡ true
+    → begins_with (first_key first other) (without_key key here) ≡ true
 begins_without key first here None s o f =
     let b = begins first here s in
-    subst (λ w. begins_with first (without key w) ≡ true) (sym b.whole)
-    (by (cmp key first) refl b.value (without key b.rest))
+    subst (λ w. begins_with first (without_key key w) ≡ true) (sym b.whole)
+    (by (cmp key first) refl b.value (without_key key b.rest))
   where
     no : same_text first key ≡ false → first ≡ key → ⊥
     no g e = let t : same_text first key ≡ true = subst (λ k. same_text first k ≡ true) e (same_text-itself first) in
@@ -225,8 +226,8 @@ begins_without key first here (Some next) s o f =
     let b = begins first here s in
     let w : here ≡ (key, b.value) ∷ b.rest = b.whole ∙ ap (λ k. (k, b.value) ∷ b.rest) f.0 in
     let u : IsStrict ((key, b.value) ∷ b.rest) = subst IsStrict w o in
-    let e : without key here ≡ b.rest = ap
-    (without key) w ∙ without-at key b.value b.rest ∙ without-above key b.rest u.0 in
+    let e : without_key key here ≡ b.rest = ap
+    (without_key key) w ∙ without-at key b.value b.rest ∙ without-above key b.rest u.0 in
     subst (λ z. begins_with next z ≡ true) (sym e) (second b.rest (ap second_key (sym w) ∙ f.1))
   where
     second : (rest : Rows) → second_key ((key, key) ∷ rest) ≡ Some next → begins_with next rest ≡ true
@@ -263,18 +264,18 @@ left_by q depth keys kids es rows e l d z m all j s o =
 -- the child that shows nothing more has left
 pub child_gone : (p q : Contents) (depth : ℕ) (keys nk : List Bytes) (kids ne : List OwnChild) (pieces : List Piece)
     (key : Bytes) (i : ℕ) (child : OwnChild) → IsPrefix p q → length kids ≡ length keys
-    → length keys ≤ 16 → 0 < depth → (d : Down p depth keys kids pieces key i child) → without key d.way.here ≡ []
+    → length keys ≤ 16 → 0 < depth → (d : Down p depth keys kids pieces key i child) → without_key key d.way.here ≡ []
     → 1 < length keys → i < length keys → nk ≡ remove keys i → ne ≡ remove kids i
-    → Left q depth nk ne (without key d.rows)
+    → Left q depth nk ne (without_key key d.rows)
 child_gone p q depth keys nk kids ne pieces key i child pre l m z d nil two within ek ee =
-    let ch = changed p q depth keys kids pieces key i child (without key) [] pre d (without-local key) tt
+    let ch = changed p q depth keys kids pieces key i child (without_key key) [] pre d (without-local key) tt
     (ap (λ w. Some w) (sym nil)) in
     let lk = length-removed keys i within in
     let le = length-removed kids i (omega (arith, within, l)) in
     let pairs : paired nk ne ≡ d.before ++ ([] ++ d.behind) =
     ap (λ ks. paired ks ne) ek ∙ ap (paired (remove keys i)) ee ∙ paired-remove keys kids i l ∙ ap
     (λ w. remove w i) d.whole ∙ remove-at d.before (d.first, child) d.behind i d.at in
-    left_by q depth nk ne (d.before ++ ([] ++ d.behind)) (without key d.rows) pairs
+    left_by q depth nk ne (d.before ++ ([] ++ d.behind)) (without_key key d.rows) pairs
     (omega (arith, lk, le, ap length ek, ap length ee, l)) z (omega (arith, lk, ap length ek, two))
     (omega (arith, lk, ap length ek, m))
     ch.all ch.joined_is ch.shown_is (without-strict key d.rows d.order)
@@ -297,23 +298,23 @@ pub child_stays : (p q : Contents) (depth : ℕ) (keys nk : List Bytes) (kids ne
     → length kids ≡ length keys → length keys ≤ 16 → 0 < depth → (d : Down p depth keys kids pieces key i child)
     → IsFate key d.first d.way.here (Stays other) → 0 < length keys
     → nk ≡ lowered i other keys → ChildChanged q (depth - 1) i kids ne child
-    (Some (without key (rows_or (child_rows p (depth - 1) child)))) → Left q depth nk ne (without key d.rows)
+    (Some (without_key key (rows_or (child_rows p (depth - 1) child)))) → Left q depth nk ne (without_key key d.rows)
 child_stays p q depth keys nk kids ne pieces key i child other pre l m z d f some ek c =
     let below = depth - 1 in
     let n = c.0 in
     let k = first_key d.first other in
-    let rows : shown q n.value.pieces ≡ Some (without key d.way.here) = c.3 ∙ ap
-    (λ z. Some (without key (rows_or z))) d.way.here_is in
+    let rows : shown q n.value.pieces ≡ Some (without_key key d.way.here) = c.3 ∙ ap
+    (λ z. Some (without_key key (rows_or z))) d.way.here_is in
     let b = begins_without key d.first d.way.here other d.way.starts d.way.strict f in
-    let one = one_child q below k n (without key d.way.here) c.2 rows b in
-    let ch = changed p q depth keys kids pieces key i child (without key) ((k, Own n) ∷ []) pre d
+    let one = one_child q below k n (without_key key d.way.here) c.2 rows b in
+    let ch = changed p q depth keys kids pieces key i child (without_key key) ((k, Own n) ∷ []) pre d
     (without-local key) one.0 one.1 in
     let pairs : paired nk ne ≡ d.before ++ (((k, Own n) ∷ []) ++ d.behind) =
     ap (λ ks. paired ks ne) ek ∙ ap (paired (lowered i other keys)) c.1 ∙ lowered_pairs keys kids i other
     (Own n) child d.before d.first d.behind l d.whole d.at in
     let lk = length-lowered i other keys in
     let le = ap length c.1 ∙ length-set kids i (Own n) in
-    left_by q depth nk ne (d.before ++ (((k, Own n) ∷ []) ++ d.behind)) (without key d.rows) pairs
+    left_by q depth nk ne (d.before ++ (((k, Own n) ∷ []) ++ d.behind)) (without_key key d.rows) pairs
     (omega (arith, lk, le, ap length ek, l)) z (omega (arith, lk, ap length ek, some))
     (omega (arith, lk, ap length ek, m))
     ch.all ch.joined_is ch.shown_is (without-strict key d.rows d.order)
@@ -328,9 +329,13 @@ pub can_remove : (p : Contents) (depth : ℕ) (keys : List Bytes) (kids : List O
 can_remove p depth keys kids pieces key i child other d g f c h =
     let r = child_requires p depth keys kids kids pieces key i child d g refl c h in
     let b = begins_without key d.first d.way.here other d.way.starts d.way.strict f in
-    let some = subst (λ z. 0 < length (without key (rows_or z))) (sym d.way.here_is)
-    (begins_some (first_key d.first other) (without key d.way.here) b) in
-    (r.0, r.1, subst (λ x. 0 < length (without key (rows_or (child_rows p (depth - 1) x)))) (some_is (sym g ∙ h)) some)
+    let some = subst (λ z. 0 < length (without_key key (rows_or z))) (sym d.way.here_is)
+    (begins_some (first_key d.first other) (without_key key d.way.here) b) in (
+      r.0,
+      r.1,
+      subst (λ x. 0 < length (without_key key (rows_or (child_rows p (depth - 1) x)))) (some_is
+          (sym g ∙ h)) some,
+    )
 
 joined_some : {A : Type 0} (g : Bytes × A → Option Rows) (es : List (Bytes × A)) (rs : Rows)
     → joined_rows (shows_of g es) ≡ Some rs → 0 < length rs → 0 < length es
@@ -340,16 +345,17 @@ joined_some g (e ∷ es) rs h l = omega arith
 -- the rows without the key's, where the child shows nothing more
 rest_rows : (p : Contents) (depth : ℕ) (keys : List Bytes) (kids : List OwnChild) (pieces : List Piece) (key : Bytes)
     (i : ℕ) (child : OwnChild)
-    → (d : Down p depth keys kids pieces key i child) → without key d.way.here ≡ []
-    → without key d.rows ≡ d.way.front ++ d.way.back
+    → (d : Down p depth keys kids pieces key i child) → without_key key d.way.here ≡ []
+    → without_key key d.rows ≡ d.way.front ++ d.way.back
 rest_rows p depth keys kids pieces key i child d nil =
-    ap (without key) d.way.whole ∙ without-local key d.way.front d.way.here d.way.back d.way.below d.way.above ∙ ap
+    ap (without_key key) d.way.whole ∙ without-local key d.way.front d.way.here d.way.back d.way.below d.way.above ∙ ap
     (λ w. d.way.front ++ (w ++ d.way.back)) nil
 
 -- other children show what stays
 pub others : (p : Contents) (depth : ℕ) (keys : List Bytes) (kids : List OwnChild) (pieces : List Piece) (key : Bytes)
     (i : ℕ) (child : OwnChild) → length kids ≡ length keys
-    → (d : Down p depth keys kids pieces key i child) → without key d.way.here ≡ [] → 0 < length (without key d.rows)
+    → (d : Down p depth keys kids pieces key i child) → without_key key d.way.here ≡ []
+    → 0 < length (without_key key d.rows)
     → 1 < length keys
 others p depth keys kids pieces key i child l d nil z =
     let r = rest_rows p depth keys kids pieces key i child d nil in
@@ -369,8 +375,8 @@ others p depth keys kids pieces key i child l d nil z =
 pub last_shown : (p : Contents) (depth : ℕ) (keys : List Bytes) (kids : List OwnChild) (pieces : List Piece)
     (key : Bytes)
     (i : ℕ) (child : OwnChild) → length kids ≡ length keys → length kids ≤ 2
-    → (d : Down p depth keys kids pieces key i child) → without key d.way.here ≡ []
-    → one_shown p (remove kids i) ≡ Some (without key d.rows)
+    → (d : Down p depth keys kids pieces key i child) → without_key key d.way.here ≡ []
+    → one_shown p (remove kids i) ≡ Some (without_key key d.rows)
 last_shown p depth keys kids pieces key i child l few d nil =
     let r = rest_rows p depth keys kids pieces key i child d nil in
     let left : remove kids i ≡ kids_in (d.before ++ d.behind) =
@@ -426,10 +432,10 @@ pub has_others : (p : Contents) (depth : ℕ) (keys : List Bytes) (kids : List O
     (key : Bytes)
     (i : ℕ) (child : OwnChild) (fate : ChildAfter) → length kids ≡ length keys
     → (d : Down p depth keys kids pieces key i child) → IsFate key d.first d.way.here fate
-    → 0 < length (without key (rows_or (shown p pieces))) → HasOthers fate (length keys)
+    → 0 < length (without_key key (rows_or (shown p pieces))) → HasOthers fate (length keys)
 has_others p depth keys kids pieces key i child Leaves l d f z =
     others p depth keys kids pieces key i child l d (leaves_none key d.first d.way.here d.way.starts f)
-    (subst (λ x. 0 < length (without key (rows_or x))) d.rows_is z)
+    (subst (λ x. 0 < length (without_key key (rows_or x))) d.rows_is z)
 has_others p depth keys kids pieces key i child (Stays other) l d f z = tt
 
 -- what an inner chunk shows once more is placed
@@ -471,7 +477,7 @@ pub gone_at : (p : Contents) (depth : ℕ) (keys nk : List Bytes) (kids : _) (ne
     → ((c : OwnChild) → slice_get kids.items i ≡ Some c
     → IsFate key (get_or keys i []) (rows_or (kid_shown p c)) fate) → HasOthers fate (length keys) → fate ≡ Leaves
     → nk ≡ remove keys i → ne ≡ remove kids.items i
-    → Left p depth nk ne (without key (rows_or (shown p (body_pieces depth keys (Inner kids)))))
+    → Left p depth nk ne (without_key key (rows_or (shown p (body_pieces depth keys (Inner kids)))))
 gone_at p depth keys nk kids ne key i at fate n t o f others e ek ee =
     let pieces = body_pieces depth keys (Inner kids) in
     let x = node_at p depth keys (Inner kids) kids pieces keys key i at refl refl n refl o t in
@@ -479,13 +485,13 @@ gone_at p depth keys nk kids ne key i at fate n t o f others e ek ee =
   where
     by : Down p depth keys kids.items (body_pieces depth keys (Inner kids)) key i (get_or kids.items i at)
         → slice_get kids.items i ≡ Some (get_or kids.items i at)
-        → Left p depth nk ne (without key (rows_or (shown p (body_pieces depth keys (Inner kids)))))
+        → Left p depth nk ne (without_key key (rows_or (shown p (body_pieces depth keys (Inner kids)))))
     by d g =
         let pieces = body_pieces depth keys (Inner kids) in
         let child = get_or kids.items i at in
         let h = subst (IsFate key d.first d.way.here) e
         (fate_here p depth keys kids.items pieces key i child fate n.1.2 d (f child g)) in
-        subst (λ w. Left p depth nk ne (without key w)) (sym (ap rows_or d.rows_is))
+        subst (λ w. Left p depth nk ne (without_key key w)) (sym (ap rows_or d.rows_is))
         (child_gone p p depth keys nk kids.items ne pieces key i child ([], append-nil p) n.1.2 n.0.0 n.1.0 d
         (leaves_none key d.first d.way.here d.way.starts h) (subst (λ w. HasOthers w (length keys)) e others) o.0 ek ee)
 
@@ -496,8 +502,8 @@ pub stays_at : (p q : Contents) (depth : ℕ) (keys nk : List Bytes) (kids : _) 
     → ((c : OwnChild) → slice_get kids.items i ≡ Some c
     → IsFate key (get_or keys i []) (rows_or (kid_shown p c)) fate) → fate ≡ Stays other → nk ≡ lowered i other keys
     → ((c : OwnChild) → slice_get kids.items i ≡ Some c → ChildChanged q (depth - 1) i kids.items ne c
-    (Some (without key (rows_or (child_rows p (depth - 1) c)))))
-    → Left q depth nk ne (without key (rows_or (shown p (body_pieces depth keys (Inner kids)))))
+    (Some (without_key key (rows_or (child_rows p (depth - 1) c)))))
+    → Left q depth nk ne (without_key key (rows_or (shown p (body_pieces depth keys (Inner kids)))))
 stays_at p q depth keys nk kids ne key i at fate other pre n t o f e ek done =
     let pieces = body_pieces depth keys (Inner kids) in
     let x = node_at p depth keys (Inner kids) kids pieces keys key i at refl refl n refl o t in
@@ -505,13 +511,13 @@ stays_at p q depth keys nk kids ne key i at fate other pre n t o f e ek done =
   where
     by : Down p depth keys kids.items (body_pieces depth keys (Inner kids)) key i (get_or kids.items i at)
         → slice_get kids.items i ≡ Some (get_or kids.items i at)
-        → Left q depth nk ne (without key (rows_or (shown p (body_pieces depth keys (Inner kids)))))
+        → Left q depth nk ne (without_key key (rows_or (shown p (body_pieces depth keys (Inner kids)))))
     by d g =
         let pieces = body_pieces depth keys (Inner kids) in
         let child = get_or kids.items i at in
         let h = subst (IsFate key d.first d.way.here) e
         (fate_here p depth keys kids.items pieces key i child fate n.1.2 d (f child g)) in
-        subst (λ w. Left q depth nk ne (without key w)) (sym (ap rows_or d.rows_is))
+        subst (λ w. Left q depth nk ne (without_key key w)) (sym (ap rows_or d.rows_is))
         (child_stays p q depth keys nk kids.items ne pieces key i child other pre n.1.2 n.0.0 n.1.0 d h n.1.1 ek
         (done child g))
 
@@ -543,7 +549,7 @@ pub fate_down : (p q : Contents) (depth : ℕ) (keys slice : List Bytes) (body :
     ≡ pieces
     → body ≡ Inner kids → IsNode depth keys body → slice ≡ keys → IsPlace key slice i
     → child ≡ get_or kids.items i child → first ≡ get_or slice i first → IsTree (shown p pieces)
-    → IsFate key first (rows_or (kid_shown p child)) fate → 0 < length (without key (rows_or (shown p pieces)))
+    → IsFate key first (rows_or (kid_shown p child)) fate → 0 < length (without_key key (rows_or (shown p pieces)))
     → ((c : OwnChild) → slice_get kids.items i ≡ Some c
     → IsFate key (get_or keys i []) (rows_or (kid_shown q c)) fate) × HasOthers fate (length keys)
 fate_down p q depth keys slice body kids pieces key first i child fate pre v e inv s o g h t f more =

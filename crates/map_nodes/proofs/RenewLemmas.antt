@@ -30,7 +30,7 @@ use Rattle.map_nodes.proofs.PutLevels.{lowered-parting, put_level, put_risen, pu
 use Rattle.map_nodes.specs.Inside.Counts.{HasKept}
 use Rattle.map_nodes.specs.Inside.Halves.{half_pieces, lowered, with_half, IsLower, IsTopped}
 use Rattle.map_nodes.specs.Inside.Nodes.{child_rows}
-use Rattle.map_nodes.specs.Inside.Puts.{value_in, ChildReplaced, HalvesPut, HasReplaced, IsHalved, IsOwnPut}
+use Rattle.map_nodes.specs.Inside.Puts.{shown_at, ChildReplaced, HalvesPut, HasReplaced, IsHalved, IsOwnPut}
 use Rattle.map_nodes.specs.Levels.{parting, seen_levels, topped, IsRenewed, RenewedLater}
 use Rattle.map_nodes.specs.Nodes.{kids_levels}
 use Rattle.map_nodes.specs.Others.{ArePutAmong}
@@ -44,10 +44,10 @@ use Rattle.map_nodes.specs.declared.nodes.putting.Half.{Half}
 -- the child to which the key belongs has the value at it
 pub value_below : (p : Contents) (depth : ℕ) (keys : List Bytes) (kids : List OwnChild) (pieces : List Piece)
     (key : Bytes) (i : ℕ) (child : OwnChild) → (d : Down p depth keys kids pieces key i child)
-    → value_in (child_rows p (depth - 1) child) key ≡ value_in (shown p pieces) key
+    → shown_at (child_rows p (depth - 1) child) key ≡ shown_at (shown p pieces) key
 value_below p depth keys kids pieces key i child d =
-    ap (λ z. value_in z key) d.way.here_is ∙ find-way key _ _ _ _ d.rows d.way
-    ∙ ap (λ z. value_in z key) (sym d.rows_is)
+    ap (λ z. shown_at z key) d.way.here_is ∙ find-way key _ _ _ _ d.rows d.way
+    ∙ ap (λ z. shown_at z key) (sym d.rows_is)
 
 -- a chunk over chunks, where a value was replaced below one of them
 pub inner_replaced : (q : Contents) (depth : ℕ) (keys now : List Bytes) (kids put all : List OwnChild) (key : Bytes)
@@ -110,14 +110,14 @@ put-same key v (r ∷ rs) o f = by (cmp key r.0) refl f (put-same key v rs o.1)
 
 -- a map that has the value already
 pub put_unchanged : (p q : Contents) (may : Ref → Type 0) (key v : Bytes) (n o : Seen) → IsPrefix p q
-    → IsTree (shown p n.pieces) → value_in (shown p n.pieces) key ≡ Some v → o ≡ n
+    → IsTree (shown p n.pieces) → shown_at (shown p n.pieces) key ≡ Some v → o ≡ n
     → IsPutOn p q may key v n o
 put_unchanged p q may key v n o pre tree found e = subst (IsPutOn p q may key v n) (sym e) (record {
   same = λ f. refl;
   shown_is = let k = known (shown p n.pieces) tree in
       shown-kept p q n.pieces k.rows pre k.is
       ∙ ap (λ w. Some w) (sym (put-same key v k.rows k.order
-      (ap (λ z. value_in z key) (sym k.is) ∙ found)))
+      (ap (λ z. shown_at z key) (sym k.is) ∙ found)))
       ∙ ap (λ z. Some (put (slice_cmp nat_cmp) key v (rows_or z))) (sym k.is);
   levels = put_same q n.depth n.depth (seen_levels n) (seen_levels n) refl (kept n);
   kept = λ t. kept n;
@@ -157,7 +157,7 @@ pub put_topped : (p q : Contents) (may : Ref → Type 0) (key v : Bytes) (n s o 
 put_topped p q may key v n s o None d made kept entries levels top = subst (IsPutOn p q may key v n) (sym top)
     (put_whole p q may key v n s None refl d made kept entries levels)
 put_topped p q may key v n s o (Some h) d made kept entries levels top =
-    let split : IsSome (value_in (shown p n.pieces) key) → ⊥ =
+    let split : IsSome (shown_at (shown p n.pieces) key) → ⊥ =
     λ there. (let e : Some h ≡ None = (made.renewed there).1 in absurd cc) in
     record {
       same = λ found. absurd (split (subst IsSome (sym found) refl));

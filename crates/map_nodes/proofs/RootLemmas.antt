@@ -9,7 +9,7 @@ use Rattle.group_history.specs.Rows.{Rows, AreKeys, rises, paired}
 use Rattle.group_history.specs.Spelling.{Contents, begins_with}
 use Rattle.map_nodes.specs.Inside.Counts.{HasKept}
 use Rattle.map_nodes.specs.Inside.Halves.{half_pieces, least, AreInOrder, HeadsBoth, IsHalf}
-use Rattle.map_nodes.specs.Inside.Rising.{CanRise, IsTaken}
+use Rattle.map_nodes.specs.Inside.Rising.{CanRise, IsAboveTaken}
 use Rattle.map_nodes.specs.Nodes.{kids_pieces, row_pieces, body_pieces, HeadIs, AllKids, IsNode}
 use Rattle.map_nodes.specs.Inside.Nodes.{Kid}
 use Rattle.map_chunks.specs.Search.{is_above}
@@ -154,7 +154,7 @@ root first second lower half keys given kids h i o g ek ec =
 pub can_rise : (q : Contents) (rows : Rows) (first : Bytes) (n s : Seen) (above : Above) (half : Option Half)
     → n.depth + 1 < 2 ^ 64 → s.depth ≡ n.depth → IsHalf 1 n.depth half
     → shown q (s.pieces ++ half_pieces half) ≡ Some rows → IsStrict rows → begins_with first rows ≡ true
-    → 0 < length s.pieces → HasKept n.entries s.entries half → IsTaken n.entries first above → CanRise s above half
+    → 0 < length s.pieces → HasKept n.entries s.entries half → IsAboveTaken n.entries first above → CanRise s above half
 can_rise q rows first n s above None deep d h e o b l kept t = tt
 can_rise q rows first n s above (Some half) deep d h e o b l kept t =
     let full : 16 ≤ n.entries = omega (arith, kept.0) in

@@ -20,7 +20,7 @@ use Rattle.map_nodes.specs.Inside.Nodes.{Kid}
 use Rattle.map_nodes.specs.Levels.{parting}
 use Rattle.map_nodes.specs.Nodes.{AllKids, HeadIs, child_height, child_pieces, kids_fresh, kids_height, kids_pieces}
 use Rattle.map_nodes.specs.Nodes.{child_marks, kids_marks, sunk}
-use Rattle.map_nodes.specs.Trails.{placed_kids, step_kids, step_seen, trail_seen, IsEnd, IsStep, IsTrail}
+use Rattle.map_nodes.specs.Trails.{placed_kids, step_kids, step_seen, trail_seen, IsTrailEnd, IsStep, IsTrail}
 use Rattle.map_nodes.specs.declared.nodes.OwnChild.{OwnChild}
 use Rattle.map_nodes.specs.declared.nodes.OwnChild.TheVariants.{Placed, Own}
 use Rattle.map_nodes.specs.declared.nodes.trails.End.{End}
@@ -94,7 +94,7 @@ pub trail_fresh : (ss : List Step) (e : End) → IsTrail ss e → fresh (trail_s
 trail_fresh [] e h = omega arith
 trail_fresh (s ∷ ss) e h = let r = trail_fresh ss e h.1 in omega (arith, r, step-fresh s (trail_seen ss e) h.0)
 
-pub trail_end : (ss : List Step) (e : End) → IsTrail ss e → IsEnd e
+pub trail_end : (ss : List Step) (e : End) → IsTrail ss e → IsTrailEnd e
 trail_end [] e h = h
 trail_end (s ∷ ss) e h = trail_end ss e h.1
 

@@ -21,7 +21,7 @@ use Rattle.map_nodes.proofs.LeafLemmas.{put-strict}
 use Rattle.map_nodes.proofs.PutLevels.{put_level, put_risen}
 use Rattle.map_nodes.proofs.WideLemmas.{wide_later}
 use Rattle.map_nodes.specs.Inside.Halves.{half_pieces, IsTopped}
-use Rattle.map_nodes.specs.Inside.Laying.{IsMade}
+use Rattle.map_nodes.specs.Inside.Laying.{IsBuilt}
 use Rattle.map_nodes.specs.Levels.{placed_levels}
 use Rattle.map_nodes.specs.Updating.{IsPutIn, IsPutRoot, IsUpdated}
 use Rattle.map_nodes.specs.declared.nodes.putting.Half.{Half}
@@ -29,7 +29,7 @@ use Rattle.map_nodes.specs.declared.roots.Updated.{Updated}
 
 -- what is made of a placed root: a chunk that wasn't split, or a root above both halves
 pub made_root : (q : Contents) (may : Ref → Type 0) (k d : ℕ) (key v : Bytes) (rows : Rows) (n root : Seen)
-    (half : Option Half) → (find (slice_cmp nat_cmp) key rows ≡ Some v → ⊥) → IsMade q may 1 k d rows key v n half
+    (half : Option Half) → (find (slice_cmp nat_cmp) key rows ≡ Some v → ⊥) → IsBuilt q may 1 k d rows key v n half
     → IsTopped n half root → IsPutRoot q q may k d rows key v root
 made_root q may k d key v rows n root None a m t =
     subst (IsPutRoot q q may k d rows key v) (sym t) (record {
@@ -56,7 +56,7 @@ made_root q may k d key v rows n root (Some h) a m t =
 
 -- what is made shows rows in order
 pub made_order : (q : Contents) (may : Ref → Type 0) (copies k d : ℕ) (key v : Bytes) (o : Option Rows) (n : Seen)
-    (half : Option Half) → IsTree o → IsMade q may copies k d (rows_or o) key v n half
+    (half : Option Half) → IsTree o → IsBuilt q may copies k d (rows_or o) key v n half
     → IsTree (shown q (n.pieces ++ half_pieces half))
 made_order q may copies k d key v o n half t m =
     let r = known o t in

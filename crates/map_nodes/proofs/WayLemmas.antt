@@ -24,7 +24,7 @@ use Rattle.map_chunks.specs.Search.{IsPlace}
 use Rattle.map_chunks.specs.Seeking.{chunk_depth}
 use Rattle.map_chunks.specs.Shown.{Seen, chunk_rows, rows_or, IsTree}
 use Rattle.map_nodes.proofs.GrownLemmas.{fits_over, made_over, over, step_over}
-use Rattle.map_nodes.specs.Inside.Laying.{CanStep, IsGrownOver, IsMade, IsReached, IsStepped}
+use Rattle.map_nodes.specs.Inside.Laying.{CanStep, IsGrownOver, IsBuilt, IsChunkEnd, IsStepped}
 use Rattle.map_nodes.specs.Trails.{step_seen, trail_seen, IsTrail}
 use Rattle.map_nodes.specs.declared.nodes.putting.Half.{Half}
 use Rattle.map_nodes.specs.declared.nodes.trails.laying.Laying.{Laying}
@@ -43,11 +43,11 @@ child_in kids key i below place b = (
 
 -- what is made of a child, by the depth of its parent
 made_below : (r : Contents) (may : Ref → Type 0) (copies stamp d : ℕ) (rows : _) (key v : Bytes) (n : Seen)
-    (half : Option Half) → IsMade r may copies stamp d rows key v n half
-    → IsMade r may copies stamp ((d + 1) - 1) rows key v n half
+    (half : Option Half) → IsBuilt r may copies stamp d rows key v n half
+    → IsBuilt r may copies stamp ((d + 1) - 1) rows key v n half
 made_below r may copies stamp d rows key v n half m =
     let one : (d + 1) - 1 ≡ d = omega arith in
-    subst (λ z. IsMade r may copies stamp z rows key v n half) (sym one) m
+    subst (λ z. IsBuilt r may copies stamp z rows key v n half) (sym one) m
 
 -- own chunks that were made below fit in the chunk above
 pub can_step : (q r : Contents) (may : Ref → Type 0) (copies : ℕ) (as_trail : Bool) (key : Bytes)
@@ -55,7 +55,7 @@ pub can_step : (q r : Contents) (may : Ref → Type 0) (copies : ℕ) (as_trail 
     → IsTree (chunk_rows q (stamp_of at)) → slice_get q (stamp_of at) ≡ Some (chunk_content (chunked.Inner kids))
     → IsPrefix q r → IsPlace key (keys_of kids) i → below ≡ get_or (values_of kids) i below → length kids ≤ 16
     → stamp_of below + 2 < 2 ^ 64
-    → IsReached r may (copies + 1) as_trail (stamp_of below) (chunk_depth q (stamp_of below))
+    → IsChunkEnd r may (copies + 1) as_trail (stamp_of below) (chunk_depth q (stamp_of below))
     (rows_or (chunk_rows q (stamp_of below))) key u x l
     → CanStep copies kids key i x
 can_step q r may copies as_trail key at below kids i u Same l w t g pre place b few big h = tt
@@ -74,18 +74,18 @@ pub reached_up : (q r : Contents) (may : Ref → Type 0) (copies : ℕ) (as_trai
     → Way q key at below → IsTree (chunk_rows q (stamp_of at))
     → slice_get q (stamp_of at) ≡ Some (chunk_content (chunked.Inner kids)) → IsPrefix q r
     → AreAll may (values_of kids) → IsPlace key (keys_of kids) i → below ≡ get_or (values_of kids) i below
-    → IsReached r may (copies + 1) as_trail (stamp_of below) (chunk_depth q (stamp_of below))
+    → IsChunkEnd r may (copies + 1) as_trail (stamp_of below) (chunk_depth q (stamp_of below))
     (rows_or (chunk_rows q (stamp_of below))) key u x old
     → IsStepped copies kids key i x y old new
-    → IsReached r may copies as_trail (stamp_of at) (chunk_depth q (stamp_of at))
+    → IsChunkEnd r may copies as_trail (stamp_of at) (chunk_depth q (stamp_of at))
     (rows_or (chunk_rows q (stamp_of at))) key u y new
 reached_up q r may copies as_trail key at below kids i u Same y old new w t g pre all
     place b h e =
-    subst (λ z. IsReached r may copies as_trail (stamp_of at) (chunk_depth q (stamp_of at))
+    subst (λ z. IsChunkEnd r may copies as_trail (stamp_of at) (chunk_depth q (stamp_of at))
     (rows_or (chunk_rows q (stamp_of at))) key u z new) (sym e) (h.0, h.1, sym w.same ∙ h.2)
 reached_up q r may copies as_trail key at below kids i u (Refused code) y old new w t g pre
     all place b h e =
-    subst (λ z. IsReached r may copies as_trail (stamp_of at) (chunk_depth q (stamp_of at))
+    subst (λ z. IsChunkEnd r may copies as_trail (stamp_of at) (chunk_depth q (stamp_of at))
     (rows_or (chunk_rows q (stamp_of at))) key u z new) (sym e) h
 reached_up q r may copies as_trail key at below kids i u Laid y old new w t g pre all
     place b h e =
@@ -109,7 +109,7 @@ reached_up q r may copies as_trail key at below kids i u Laid y old new w t g pr
     let deep : w.depth ≡ d = some_is (sym w.depth_is ∙ h.4.1) in
     let is : s ∷ steps ≡ reverse new.steps.items =
     sym (ap reverse e.2.3 ∙ reverse-append old.steps.items (s ∷ [])) in
-    subst (λ z. IsReached r may copies as_trail (stamp_of at) (chunk_depth q (stamp_of at)) rows key u z new)
+    subst (λ z. IsChunkEnd r may copies as_trail (stamp_of at) (chunk_depth q (stamp_of at)) rows key u z new)
     (sym e.0) (
       v,
       h.1,
@@ -122,7 +122,7 @@ reached_up q r may copies as_trail key at below kids i u Laid y old new w t g pr
           end,
           e.1 ∙ h.4.2.1,
           subst (λ z. IsTrail z end) is (step.0, h.4.2.2),
-          subst (λ z. IsMade r may copies (stamp_of at) (d + 1) rows key v (trail_seen z end) None) is made,
+          subst (λ z. IsBuilt r may copies (stamp_of at) (d + 1) rows key v (trail_seen z end) None) is made,
         ),
       ),
     )
@@ -139,7 +139,7 @@ reached_up q r may copies as_trail key at below kids i u (Grown child half) y ol
     let m = made_below r may (copies + 1) (stamp_of below) d below_rows key v child.value half h.3.3 in
     let grown = subst (λ z. IsGrownOver copies (z + 1) kids key i child.value half n.value made) h.3.3.depth_is e.3 in
     let deep : w.depth ≡ d = some_is (sym w.depth_is ∙ h.3.1) in
-    subst (λ z. IsReached r may copies as_trail (stamp_of at) (chunk_depth q (stamp_of at)) rows key u z new)
+    subst (λ z. IsChunkEnd r may copies as_trail (stamp_of at) (chunk_depth q (stamp_of at)) rows key u z new)
     (sym e.2) (
       v,
       h.1,
@@ -163,8 +163,8 @@ err_so (Err e) h f = f e h
 -- the same told by other words
 pub reached_as : (q : Contents) (may : Ref → Type 0) (n m : ℕ) (a b : Bool) (stamp : ℕ) (depth : Option ℕ)
     (rows : Rows) (j k : Bytes) (u : Update) (x : Reached) (l : Laying) → n ≡ m → a ≡ b → j ≡ k
-    → IsReached q may n a stamp depth rows j u x l → IsReached q may m b stamp depth rows k u x l
+    → IsChunkEnd q may n a stamp depth rows j u x l → IsChunkEnd q may m b stamp depth rows k u x l
 reached_as q may n m a b stamp depth rows j k u x l e f g h =
-    subst (λ z. IsReached q may z b stamp depth rows k u x l) e
-    (subst (λ z. IsReached q may n z stamp depth rows k u x l) f
-    (subst (λ z. IsReached q may n a stamp depth rows z u x l) g h))
+    subst (λ z. IsChunkEnd q may z b stamp depth rows k u x l) e
+    (subst (λ z. IsChunkEnd q may n z stamp depth rows k u x l) f
+    (subst (λ z. IsChunkEnd q may n a stamp depth rows z u x l) g h))

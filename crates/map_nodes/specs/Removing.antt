@@ -14,8 +14,8 @@ use Rattle.map_chunks.specs.Wide.{IsWideAt, IsWideChunk}
 use Rattle.map_nodes.specs.Levels.{Levels, RemovedLater, placed_levels, seen_levels}
 
 -- rows without that of a key
-abbrev pub without : Bytes → Rows → Rows
-without key rows = filter (λ r. not (is_eq (slice_cmp nat_cmp key r.0))) rows
+abbrev pub without_key : Bytes → Rows → Rows
+without_key key rows = filter (λ r. not (is_eq (slice_cmp nat_cmp key r.0))) rows
 
 -- what a root shows: a placed chunk, if there is one, else the draft's
 abbrev pub root_rows : Contents → Seen → Option Ref → Option Rows

@@ -50,8 +50,8 @@ abbrev pub trail_seen : List Step → End → Seen
 trail_seen [] e = leaf_seen e
 trail_seen (s ∷ ss) e = step_seen s (trail_seen ss e)
 
-abbrev pub IsEnd : End → Type 0
-IsEnd e = AreKeys (arc_value e.keys) × (length e.values.items ≡ length (arc_value e.keys))
+abbrev pub IsTrailEnd : End → Type 0
+IsTrailEnd e = AreKeys (arc_value e.keys) × (length e.values.items ≡ length (arc_value e.keys))
 
 -- at most 16 keys in strict order, each with a child; the chunk below is under its first key
 abbrev pub IsStep : Step → Seen → Type 0
@@ -59,5 +59,5 @@ IsStep s below = AreKeys (arc_value s.keys) × (length s.children.items ≡ leng
     × (s.place < length (arc_value s.keys)) × AllKids below.depth (paired (arc_value s.keys) (step_kids s below))
 
 abbrev pub IsTrail : List Step → End → Type 0
-IsTrail [] e = IsEnd e
+IsTrail [] e = IsTrailEnd e
 IsTrail (s ∷ ss) e = IsStep s (trail_seen ss e) × IsTrail ss e

@@ -8,12 +8,12 @@ use std::alloc::AllocError;
 
 /// What is put at a key: what a closure makes of the value there (none where the key isn't there), or a value.
 #[derive(Drop)]
-pub enum Change<F> {
+pub enum ValueChange<F> {
     Ask(F),
     Value(Json),
 }
 
-impl<F: FnOnce(Option<Json>) -> Result<Update, Stop>> Change<F> {
+impl<F: FnOnce(Option<Json>) -> Result<Update, Stop>> ValueChange<F> {
     /// What it makes of this value. Stops for want of memory, or as the closure does.
     pub(crate) fn of(self, there: Option<&Json>) -> Result<Update, Stop>
         requires callable { CanMake (λ f. F.IsAlwaysCallable f) self }
@@ -22,8 +22,8 @@ impl<F: FnOnce(Option<Json>) -> Result<Update, Stop>> Change<F> {
             ⊎ Makes (λ f x r. F.post f x r) self (option_copied there.entry) (Err e)) }
     {
         match self {
-            Change::Value(value) => Ok(Update::Put(value)),
-            Change::Ask(ask) => {
+            ValueChange::Value(value) => Ok(Update::Put(value)),
+            ValueChange::Ask(ask) => {
                 let there = copied(there)?;
                 ask(there)
             }

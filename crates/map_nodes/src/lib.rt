@@ -4,8 +4,8 @@
 //! copied before they change. Contracts see an own chunk as the list of its pieces: rows, and the placed chunks below
 //! it. Each call asks that what the chunk shows is in order, and says what it shows afterwards.
 //!
-//! `OwnRoot` is the root of a map. What is put is a `Change`: what a closure makes of the value at the key, or a value.
-//! It is taken down to the leaf, so an update goes down once, as a put does.
+//! `OwnRoot` is the root of a map. What is put is a `ValueChange`: what a closure makes of the value at the key, or a
+//! value. It is taken down to the leaf, so an update goes down once, as a put does.
 //!
 //! From a placed chunk on, each chunk is held while the way goes on below it (`nodes/trails/laying.rt`), and new ones
 //! are made on the way up, only where the value changes. Where the root is placed and no chunk is split,
@@ -25,5 +25,5 @@ mod changes;
 mod nodes;
 mod roots;
 
-pub use changes::Change;
+pub use changes::ValueChange;
 pub use roots::{OwnRoot, Updated, frozen};

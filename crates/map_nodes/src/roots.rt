@@ -19,15 +19,15 @@ ghost use Rattle.map_chunks.specs.Places.{with_nodes, Grows, AreAll, AreKept, Ad
 ghost use Rattle.map_chunks.specs.Seeking.{chunk_depth};
 ghost use Rattle.map_chunks.specs.Shown.{chunk_rows, fresh, own, leaf_keys, shown, IsTree, rows_or};
 ghost use Rattle.map_nodes.specs.Changes.{CanMake, Makes};
-ghost use Rattle.map_nodes.specs.Inside.Laying.{IsReached};
+ghost use Rattle.map_nodes.specs.Inside.Laying.{IsChunkEnd};
 ghost use Rattle.map_nodes.specs.Updating.{IsPutOr, IsUpdated};
 ghost use Rattle.map_chunks.specs.Wide.{IsWideAt, IsWideChunk};
-ghost use Rattle.map_nodes.specs.Removing.{root_left, without, root_rows, IsRootRemoved, IsWideRoot};
+ghost use Rattle.map_nodes.specs.Removing.{root_left, without_key, root_rows, IsRootRemoved, IsWideRoot};
 ghost use Rattle.map_nodes.specs.Levels.{placed_levels, seen_levels, CopiedLater, NamedLater};
 
 mod reading;
 
-use crate::changes::Change;
+use crate::changes::ValueChange;
 use crate::nodes::{Down, Laying, OwnNode, Reached, Trail, change_at, topped};
 use group_history::{Json, Ran, Ref, Refusal, STAMPS, SearchKey, Stop, Update};
 use map_chunks::{Chunks, Draft};
@@ -118,7 +118,7 @@ impl OwnRoot {
         chunks: &mut C,
         at: Ref,
         key: &str,
-        change: Change<F>,
+        change: ValueChange<F>,
     ) -> Result<Updated, Stop>
         requires place { C.places chunks.old at }
         requires tree { IsTree (chunk_rows (C.contents chunks.old) (stamp_of at)) }
@@ -156,10 +156,10 @@ impl OwnRoot {
         laying: Laying,
     ) -> Result<Updated, AllocError>
         requires tree { IsTree (chunk_rows (C.contents chunks.now) (stamp_of at)) }
-        requires reached { (u : Updates) × IsReached (C.contents chunks.now) (C.places chunks.now) 1 true
+        requires reached { (u : Updates) × IsChunkEnd (C.contents chunks.now) (C.places chunks.now) 1 true
             (stamp_of at) (chunk_depth (C.contents chunks.now) (stamp_of at))
             (rows_or (chunk_rows (C.contents chunks.now) (stamp_of at))) down.now.key.now u reached laying }
-        ensures { (u : Updates) → IsReached (C.contents chunks.now) (C.places chunks.now) 1 true (stamp_of at)
+        ensures { (u : Updates) → IsChunkEnd (C.contents chunks.now) (C.places chunks.now) 1 true (stamp_of at)
             (chunk_depth (C.contents chunks.now) (stamp_of at))
             (rows_or (chunk_rows (C.contents chunks.now) (stamp_of at))) down.now.key.now u reached laying
             → IfOk result (IsUpdated (C.contents chunks.now) (C.contents chunks.now) (C.places chunks.now) (stamp_of at)
@@ -217,7 +217,7 @@ impl OwnRoot {
         alloc: Global,
         chunks: &mut C,
         key: &str,
-        change: Change<F>,
+        change: ValueChange<F>,
     ) -> Result<Ran, Stop>
         requires places { AreAll (C.places chunks.old) (places_of self.old.pieces) }
         requires tree { IsTree (shown (C.contents chunks.old) self.old.pieces) }
@@ -255,7 +255,7 @@ impl OwnRoot {
         requires tree { IsTree (shown (C.contents chunks.old) self.old.pieces) }
         ensures grown { Grows C.contents C.places chunks.old chunks.new }
         ensures done { IfOk result (λ root. root_rows (C.contents chunks.new) self.new root
-            ≡ Some (without key.now (rows_or (shown (C.contents chunks.old) self.old.pieces)))) }
+            ≡ Some (without_key key.now (rows_or (shown (C.contents chunks.old) self.old.pieces)))) }
         ensures places { IfOk result (λ root. AreKept (C.places chunks.new) (places_of self.old.pieces)
             (root_left self.new root)) }
         ensures levels { IfOk result (IsRootRemoved (C.contents chunks.new) self.old.depth (seen_levels self.old)
@@ -315,7 +315,7 @@ fn written_over<C: Chunks, F: FnOnce(Option<Json>) -> Result<Update, Stop>>(
     alloc: Global,
     chunks: &mut C,
     key: &str,
-    change: Change<F>,
+    change: ValueChange<F>,
 ) -> Result<(OwnNode, Ran), Stop>
     requires places { AreAll (C.places chunks.old) (places_of trail.now.pieces) }
     requires tree { IsTree (shown (C.contents chunks.old) trail.now.pieces) }

@@ -11,7 +11,7 @@ use Rattle.group_history.specs.Rows.{Rows}
 use Rattle.group_history.specs.Spelling.{Contents, Segment, segment_at}
 use Rattle.group_history.proofs.Spellings.{segment-content}
 use Rattle.map_tree.specs.Trees.{root_levels, root_places, root_map, root_depth, root_or, IsWide}
-use Rattle.map_nodes.specs.Removing.{without, root_left, root_rows, IsRootRemoved, IsWideRoot}
+use Rattle.map_nodes.specs.Removing.{without_key, root_left, root_rows, IsRootRemoved, IsWideRoot}
 use Rattle.map_nodes.specs.Levels.{placed_levels, Levels, RemovedLater}
 use Rattle.map_chunks.specs.Shown.{Seen, shown, chunk_rows, rows_or, map_of_rows}
 use Rattle.map_chunks.specs.Wide.{IsWideAt}
@@ -31,7 +31,8 @@ wide_at-kept old new k s p h w =
 -- a root of a draft, or the placed one to which it gives way
 pub removed_map : (q : Contents) (n : Seen) (end : Option Ref) (x : Option Rows) (m : Entries) (key : Bytes)
     → option_and_then map_of_rows x ≡ Some m
-    → root_rows q n end ≡ Some (without key (rows_or x)) → root_map q (root_or end (Own n)) ≡ Some (finite.remove m key)
+    → root_rows q n end ≡ Some (without_key key (rows_or x)) → root_map q (root_or end (Own n))
+    ≡ Some (finite.remove m key)
 removed_map q n None x m key h e = map_removed x (shown q n.pieces) m key h e
 removed_map q n (Some at) x m key h e = map_at-rows q (stamp_of at) ∙ map_removed x
     (chunk_rows q (stamp_of at)) m key h e

@@ -1,4 +1,4 @@
-//! A map as a tree of chunks.
+//! A map as a tree of chunks: a B+ tree, copied on write.
 //!
 //! `Tree` is the map: its root is a chunk that was placed, or one of the draft's own. What shows placed chunks is
 //! handed on from `map_chunks`; `map_nodes` has the draft's own chunks. Trees stand in three crates, since a crate is

@@ -12,9 +12,9 @@ use Rattle.group_history.specs.Answers.{◌>>=◌, AnswersOrNoMemory, Refuses}
 use Rattle.group_history.specs.Cookies.{Cookie, cookie_of}
 use Rattle.pull_patch.specs.Fields.{◌>>-◌, each}
 use Rattle.pull_patch.specs.Operations.{Edit, operation_of}
-use Rattle.pull_patch.specs.Changes.{Entry, change_of}
+use Rattle.pull_patch.specs.Changes.{Entry, confirmed_said}
 use Rattle.pull_patch.specs.Grammar.{Fields, pull_of, pull_response, fields_of}
-use Rattle.pull_patch.specs.Inside.Parts.{cookie_field, changes_field, patch_field, joined}
+use Rattle.pull_patch.specs.Inside.Parts.{cookie_field, changes_field, patch_field, united}
 
 -- what is right of the whole is right of the part that was refused
 pub Refuses-through : {A B : Type 0} (e : Refusal) (part : Result A Refusal) (whole : Result B Refusal)
@@ -37,7 +37,7 @@ first None p q r h = cc
 first (Some c) p q r h = cc
 
 second : (o : Option Data) (p : Option (List Entry)) (q : Option (List Edit)) (r : Refusal)
-    → part (each change_of) p ≡ Err r → said (shape o p q) ≡ Err r
+    → part (each confirmed_said) p ≡ Err r → said (shape o p q) ≡ Err r
 second None None q r h = cc
 second (Some c) None q r h = cc
 second o (Some cs) q r h = cc
@@ -51,15 +51,15 @@ third o p (Some es) r h = cc
 
 whole : (o : Option Data) (p : Option (List Entry)) (q : Option (List Edit)) (c : Option Cookie)
     (cs : Option (List Confirmed)) (ops : Option (List Patch))
-    → part cookie_of o ≡ Ok c → part (each change_of) p ≡ Ok cs → part (each operation_of) q ≡ Ok ops
-    → said (shape o p q) ≡ joined c cs ops
+    → part cookie_of o ≡ Ok c → part (each confirmed_said) p ≡ Ok cs → part (each operation_of) q ≡ Ok ops
+    → said (shape o p q) ≡ united c cs ops
 unfolding pull_of
 whole None p q c cs ops x y z = absurd (cc)
 whole (Some d) None q c cs ops x y z = absurd (cc)
 whole (Some d) (Some ds) None c cs ops x y z = absurd (cc)
 whole (Some d) (Some ds) (Some es) c cs ops x y z =
     let x' : cookie_of d ≡ c = cc in
-    let y' : each change_of ds ≡ cs = cc in
+    let y' : each confirmed_said ds ≡ cs = cc in
     let z' : each operation_of es ≡ ops = cc in
     rw (x', y', z') refl
 
@@ -76,15 +76,15 @@ unfolding patch_field pull_response fields_of
 patch-refused d r h = third _ _ _ r h
 
 pub fields-joined : (d : Data) (c : Option Cookie) (cs : Option (List Confirmed)) (ops : Option (List Patch))
-    → cookie_field d ≡ Ok c → changes_field d ≡ Ok cs → patch_field d ≡ Ok ops → pull_response d ≡ joined c cs ops
+    → cookie_field d ≡ Ok c → changes_field d ≡ Ok cs → patch_field d ≡ Ok ops → pull_response d ≡ united c cs ops
 unfolding cookie_field changes_field patch_field pull_response fields_of
 fields-joined d c cs ops x y z = whole _ _ _ c cs ops x y z
 
-pub no_changes : (c : Option Cookie) (ops : Option (List Patch)) → joined c None ops ≡ Err NotWhole
+pub no_changes : (c : Option Cookie) (ops : Option (List Patch)) → united c None ops ≡ Err NotWhole
 no_changes None ops = refl
 no_changes (Some c) ops = refl
 
-pub no_patch : (c : Option Cookie) (cs : Option (List Confirmed)) → joined c cs None ≡ Err NotWhole
+pub no_patch : (c : Option Cookie) (cs : Option (List Confirmed)) → united c cs None ≡ Err NotWhole
 no_patch None cs = refl
 no_patch (Some c) None = refl
 no_patch (Some c) (Some cs) = refl

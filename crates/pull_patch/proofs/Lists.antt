@@ -11,7 +11,7 @@ use Rattle.group_history.specs.declared.responses.Confirmed.{Confirmed}
 use Rattle.group_history.specs.declared.responses.Patch.{Patch}
 use Rattle.pull_patch.specs.Fields.{each, items_list, members_list}
 use Rattle.pull_patch.specs.Operations.{Edit, edit_of, edits_of, operation_of}
-use Rattle.pull_patch.specs.Changes.{Entry, entry, id_of, entry_of, entries_of, change_of}
+use Rattle.pull_patch.specs.Changes.{Entry, entry, id_of, entry_of, entries_of, confirmed_said}
 use Rattle.pull_patch.specs.Inside.Parts.{patch_part, changes_part}
 
 pub items_list-view : (vs : List Value) → items_list (items_view vs) ≡ map view vs
@@ -32,14 +32,14 @@ patch_part-ok vs es o is ops = ap (λ ds. patch_or_shape (each edit_of ds))
     (items_list-view vs) ∙ ap patch_or_shape is ∙ ap Ok ops
 
 abbrev changes_or_shape : Option (List Entry) → Result (Option (List Confirmed)) Refusal
-changes_or_shape o = ok_or (option_map (each change_of) o) BadShape
+changes_or_shape o = ok_or (option_map (each confirmed_said) o) BadShape
 
 pub changes_part-none : (ms : Members) → each entry_of (members_list ms) ≡ None → changes_part ms ≡ Err BadShape
 unfolding changes_part entries_of
 changes_part-none ms none = ap changes_or_shape none
 
 pub changes_part-ok : (ms : Members) (es : List Entry) (o : Option (List Confirmed))
-    → each entry_of (members_list ms) ≡ Some es → each change_of es ≡ o → changes_part ms ≡ Ok o
+    → each entry_of (members_list ms) ≡ Some es → each confirmed_said es ≡ o → changes_part ms ≡ Ok o
 unfolding changes_part entries_of
 changes_part-ok ms es o is ids = ap changes_or_shape is ∙ ap Ok ids
 

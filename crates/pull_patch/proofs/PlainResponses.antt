@@ -16,13 +16,13 @@ use Rattle.group_history.specs.Answers.{◌>>=◌}
 use Rattle.group_history.specs.Cookies.{Cookie}
 use Rattle.group_history.specs.Pull.{AreInRange}
 use Rattle.pull_patch.specs.declared.plain.ResponseParts.{ResponseParts}
-use Rattle.pull_patch.specs.Changes.{Entry, entries_of, change_of}
+use Rattle.pull_patch.specs.Changes.{Entry, entries_of, confirmed_said}
 use Rattle.pull_patch.specs.Fields.{each, ◌>>-◌}
-use Rattle.pull_patch.specs.Grammar.{is_cookie, cookie_at, fields_of, pull_of, pull_response, by_error, response_of}
+use Rattle.pull_patch.specs.Grammar.{is_cookie, cookie_said, fields_of, pull_of, pull_response, by_error, response_of}
 use Rattle.pull_patch.specs.Grammar.{answer_to}
 use Rattle.pull_patch.specs.Operations.{edits_of}
-use Rattle.pull_patch.specs.Inside.Parts.{changes_part, joined}
-use Rattle.pull_patch.specs.Inside.Plain.{ArePatch, IsCookie, AreChanges, HasCookie, HasChanges, HasPatch, ArePartsOf}
+use Rattle.pull_patch.specs.Inside.Parts.{changes_part, united}
+use Rattle.pull_patch.specs.Inside.Plain.{ArePatch, IsCookie, AreLastIds, HoldsCookie, HasChanges, HasPatch, ArePartsOf}
 use Rattle.pull_patch.specs.Inside.Plain.{ReadsBody}
 use Rattle.group_history.proofs.Readings.{reading-ok}
 use Rattle.pull_patch.proofs.Turns.{whole_read}
@@ -31,7 +31,7 @@ use Rattle.pull_patch.proofs.Patches.{names_differ, names_same, other_way, kept}
 -- ---- the parts, while more fields come
 
 cookie_kept : (k : List ℕ) (d : Data) (ms : Members) → codes "cookie" ≢ k → (o : Option Cookie)
-    → IfSome o (λ c. HasCookie ms c) → IfSome o (λ c. HasCookie (put k d ms) c)
+    → IfSome o (λ c. HoldsCookie ms c) → IfSome o (λ c. HoldsCookie (put k d ms) c)
 cookie_kept k d ms other None h = tt
 cookie_kept k d ms other (Some c) h = record {
   tree = h.tree;
@@ -92,7 +92,7 @@ parts_cookie p c d name ms test is h =
     }
 
 pub parts_changes : (p : ResponseParts) (v : Vec Confirmed Global) (d : Data) (name : List ℕ) (ms : Members)
-    → bytes_eq name (codes "lastMutationIDChanges") ≡ true → AreChanges d v.items → AreInRange v.items → ArePartsOf p ms
+    → bytes_eq name (codes "lastMutationIDChanges") ≡ true → AreLastIds d v.items → AreInRange v.items → ArePartsOf p ms
     → ArePartsOf (record p { changes = Some v }) (put name d ms)
 parts_changes p v d name ms test are in_range h =
     subst (λ (k : List ℕ). ArePartsOf (record p { changes = Some v }) (put k d ms))
@@ -123,18 +123,18 @@ parts_other p d name ms patch error cookie changes h = record {
 
 -- ---- single parts
 
-pub cookie_at-some : (d : Data) → is_cookie d ≡ true → cookie_at d ≡ Some d
-unfolding cookie_at
+pub cookie_at-some : (d : Data) → is_cookie d ≡ true → cookie_said d ≡ Some d
+unfolding cookie_said
 cookie_at-some d h = rw h
 
 changes_in : (o : Option (List Entry)) (cs : List Confirmed)
-    → ok_or (option_map (each change_of) o) BadShape ≡ Ok (Some cs)
-    → (es : List Entry) × (o ≡ Some es) × (each change_of es ≡ Some cs)
+    → ok_or (option_map (each confirmed_said) o) BadShape ≡ Ok (Some cs)
+    → (es : List Entry) × (o ≡ Some es) × (each confirmed_said es ≡ Some cs)
 changes_in None cs e = absurd (cc)
 changes_in (Some es) cs e = (es, refl, cc)
 
 pub AreChanges-part : (d : Data) (ms : Members) (cs : List Confirmed) → as_object d ≡ Some ms
-    → changes_part ms ≡ Ok (Some cs) → AreChanges d cs
+    → changes_part ms ≡ Ok (Some cs) → AreLastIds d cs
 unfolding changes_part
 AreChanges-part d ms cs is e =
     let f = changes_in (entries_of ms) cs e in
@@ -143,12 +143,12 @@ AreChanges-part d ms cs is e =
 -- ---- the whole
 
 joined_response : (ms : Members) (c : Cookie) (cs : List Confirmed) (ps : List Patch)
-    → get_member (codes "error") ms ≡ None → HasCookie ms c → HasChanges ms cs → HasPatch ms ps
+    → get_member (codes "error") ms ≡ None → HoldsCookie ms c → HasChanges ms cs → HasPatch ms ps
     → response_of (object ms) ≡ Ok (response.Ok (record { cookie = c; changes = cs; patch = ps }))
 unfolding response_of pull_response fields_of pull_of
 joined_response ms c cs ps error hc hs hp =
-    let cookie : (get_member (codes "cookie") ms >>- cookie_at)
-    ≡ Some hc.tree = ap (λ o. o >>- cookie_at) hc.at ∙ hc.is.shape in
+    let cookie : (get_member (codes "cookie") ms >>- cookie_said)
+    ≡ Some hc.tree = ap (λ o. o >>- cookie_said) hc.at ∙ hc.is.shape in
     let changes : ((get_member (codes "lastMutationIDChanges") ms >>- as_object) >>- entries_of)
     ≡ Some hs.are.entries = ap (λ o. (o >>- as_object) >>- entries_of) hs.at ∙ hs.are.shape in
     let patch : ((get_member (codes "patch") ms >>- as_array) >>- edits_of)
@@ -161,8 +161,8 @@ in_range_if ms None h = tt
 in_range_if ms (Some v) h = h.in_range
 
 joined_by : (ms : Members) (o : Option Cookie) (cs : Option (Vec Confirmed Global)) (ps : Option (Vec Patch Global))
-    (r : Response) → joined o (option_map (λ v. v.items) cs) (option_map (λ v. v.items) ps) ≡ Ok r
-    → get_member (codes "error") ms ≡ None → IfSome o (λ c. HasCookie ms c) → IfSome cs (λ v. HasChanges ms v.items)
+    (r : Response) → united o (option_map (λ v. v.items) cs) (option_map (λ v. v.items) ps) ≡ Ok r
+    → get_member (codes "error") ms ≡ None → IfSome o (λ c. HoldsCookie ms c) → IfSome cs (λ v. HasChanges ms v.items)
     → IfSome ps (λ v. HasPatch ms v.items) → response_of (object ms) ≡ Ok r
 joined_by ms None cs ps r e error a b c = absurd (cc)
 joined_by ms (Some o) None ps r e error a b c = absurd (cc)
@@ -170,7 +170,7 @@ joined_by ms (Some o) (Some cs) None r e error a b c = absurd (cc)
 joined_by ms (Some o) (Some cs) (Some ps) r e error a b c = joined_response ms o cs.items ps.items error a b c ∙ e
 
 pub joined_parts : (ms : Members) (p : ResponseParts) (r : Response)
-    → joined p.cookie (option_map (λ v. v.items) p.changes) (option_map (λ v. v.items) p.patch) ≡ Ok r → ArePartsOf p ms
+    → united p.cookie (option_map (λ v. v.items) p.changes) (option_map (λ v. v.items) p.patch) ≡ Ok r → ArePartsOf p ms
     → response_of (object ms) ≡ Ok r
 joined_parts ms p r e h = joined_by ms p.cookie p.changes p.patch r e h.no_error h.cookie h.changes h.patch
 

@@ -20,12 +20,12 @@ use Rattle.group_history.proofs.IdLemmas.{or_false}
 use Rattle.pull_patch.specs.Fields.{text_at, array_at, object_at, each, items_list, members_list, ◌>>-◌}
 use Rattle.pull_patch.specs.Operations.{Edit, put, del, clear, put_of, del_of, edit_named, edit_of, edits_of}
 use Rattle.pull_patch.specs.Operations.{operation_of}
-use Rattle.pull_patch.specs.Changes.{Entry, entry, id_of, entry_of, entries_of, change_of}
-use Rattle.pull_patch.specs.Grammar.{is_plain_order, has_plain_order, is_cookie, cookie_at, fields_of, pull_of}
+use Rattle.pull_patch.specs.Changes.{Entry, entry, id_of, entry_of, entries_of, confirmed_said}
+use Rattle.pull_patch.specs.Grammar.{is_plain_order, has_plain_order, is_cookie, cookie_said, fields_of, pull_of}
 use Rattle.pull_patch.specs.Grammar.{pull_response, error_named, error_of, by_error, response_of}
 use Rattle.pull_patch.specs.Laws.{OnlyNumbersAreNotWhole}
 use Rattle.pull_patch.proofs.Joins.{shape, said}
-use Rattle.pull_patch.specs.Inside.Parts.{joined}
+use Rattle.pull_patch.specs.Inside.Parts.{united}
 
 -- ---- what is there has no float
 
@@ -127,8 +127,8 @@ unfolding cookie_of
 cookie_found d p h = rw h (map_found {B = Cookie} (λ (o : Order). record { text = compact_text d; order = o })
     (order_of d) (order_found d p h))
 
-cookie_finds : (o : Option Data) → WholeAt o → Finds cookie_of (option_and_then cookie_at o)
-unfolding cookie_at
+cookie_finds : (o : Option Data) → WholeAt o → Finds cookie_of (option_and_then cookie_said o)
+unfolding cookie_said
 cookie_finds None h = tt
 cookie_finds (Some d) h = elim (is_cookie d) as (λ b. is_cookie d ≡ b → Finds cookie_of (cond b (Some d) None)) [
   | true ↦ λ e. cookie_found d e h
@@ -136,12 +136,12 @@ cookie_finds (Some d) h = elim (is_cookie d) as (λ b. is_cookie d ≡ b → Fin
 ] refl
 
 id_found : (name : List ℕ) (b : Bool) (n : ℕ)
-    → Finds change_of (option_map (entry name) (cond b (Some (unsigned n)) None))
-unfolding change_of
+    → Finds confirmed_said (option_map (entry name) (cond b (Some (unsigned n)) None))
+unfolding confirmed_said
 id_found name true n = tt
 id_found name false n = tt
 
-entry_finds : (name : List ℕ) (d : Data) → has_float d ≡ false → Finds change_of (entry_of (name, d))
+entry_finds : (name : List ℕ) (d : Data) → has_float d ≡ false → Finds confirmed_said (entry_of (name, d))
 unfolding entry_of id_of
 entry_finds name null h = tt
 entry_finds name (boolean b) h = tt
@@ -213,15 +213,15 @@ each_finds : {A B C : Type 0} (g : A → Option B) (f : B → Option C) (xs : Li
 each_finds g f [] h = tt
 each_finds g f (x ∷ xs) h = next_finds f (g x) (each g xs) h.0 (each_finds g f xs h.1)
 
-members_find : (ms : Members) → members_have_float ms ≡ false → AllFind entry_of change_of (members_list ms)
+members_find : (ms : Members) → members_have_float ms ≡ false → AllFind entry_of confirmed_said (members_list ms)
 members_find no_members h = tt
 members_find (member name d ms) h =
     let p = or_false (has_float d) (members_have_float ms) h in (entry_finds name d p.0, members_find ms p.1)
 
-changes_find : (o : Option Members) → MembersWhole o → Finds (each change_of) (option_and_then entries_of o)
+changes_find : (o : Option Members) → MembersWhole o → Finds (each confirmed_said) (option_and_then entries_of o)
 unfolding entries_of
 changes_find None h = tt
-changes_find (Some ms) h = each_finds entry_of change_of (members_list ms) (members_find ms h)
+changes_find (Some ms) h = each_finds entry_of confirmed_said (members_list ms) (members_find ms h)
 
 items_find : (ds : Items) → items_have_float ds ≡ false → AllFind edit_of operation_of (items_list ds)
 items_find no_items h = tt
@@ -236,25 +236,25 @@ patch_finds (Some ds) h = each_finds edit_of operation_of (items_list ds) (items
 -- ---- the response
 
 joined_found : (x : Option Cookie) (y : Option (List Confirmed)) (z : Option (List Patch)) → Found x → Found y → Found z
-    → joined x y z ≡ Err NotWhole → ⊥
+    → united x y z ≡ Err NotWhole → ⊥
 joined_found None y z a b c e = a
 joined_found (Some x) None z a b c e = b
 joined_found (Some x) (Some y) None a b c e = c
 joined_found (Some x) (Some y) (Some z) a b c e = cc
 
 said_whole : (o : Option Data) (p : Option (List Entry)) (q : Option (List Edit)) → Finds cookie_of o
-    → Finds (each change_of) p → Finds (each operation_of) q → said (shape o p q) ≡ Err NotWhole → ⊥
+    → Finds (each confirmed_said) p → Finds (each operation_of) q → said (shape o p q) ≡ Err NotWhole → ⊥
 unfolding pull_of
 said_whole None p q a b c e = cc
 said_whole (Some x) None q a b c e = cc
 said_whole (Some x) (Some y) None a b c e = cc
-said_whole (Some x) (Some y) (Some z) a b c e = joined_found (cookie_of x) (each change_of y)
+said_whole (Some x) (Some y) (Some z) a b c e = joined_found (cookie_of x) (each confirmed_said y)
     (each operation_of z) a b c e
 
 pull_whole : (d : Data) → has_float d ≡ false → pull_response d ≡ Err NotWhole → ⊥
 unfolding pull_response fields_of
 pull_whole d h e =
-    said_whole (get (codes "cookie") d >>- cookie_at) (object_at (codes "lastMutationIDChanges") d >>- entries_of)
+    said_whole (get (codes "cookie") d >>- cookie_said) (object_at (codes "lastMutationIDChanges") d >>- entries_of)
     (array_at (codes "patch") d >>- edits_of)
     (cookie_finds (get (codes "cookie") d) (field_whole (codes "cookie") d h))
     (changes_find (object_at (codes "lastMutationIDChanges") d)

@@ -40,5 +40,5 @@ unfoldable pub entries_of : Members → Option (List Entry)
 entries_of ms = each entry_of (members_list ms)
 
 -- what a member says; none where its number isn't whole
-unfoldable pub change_of : Entry → Option Confirmed
-change_of e = option_map (λ id. record { client = e.client; id = id }) (as_u64 e.number)
+unfoldable pub confirmed_said : Entry → Option Confirmed
+confirmed_said e = option_map (λ id. record { client = e.client; id = id }) (as_u64 e.number)

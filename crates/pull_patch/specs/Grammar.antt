@@ -19,7 +19,7 @@ use Rattle.group_history.specs.Cookies.{cookie_of}
 use Rattle.group_history.specs.Pull.{Pull}
 use Rattle.pull_patch.specs.Fields.{text_at, array_at, object_at, each, ◌>>-◌}
 use Rattle.pull_patch.specs.Operations.{Edit, edits_of, operation_of}
-use Rattle.pull_patch.specs.Changes.{Entry, entries_of, change_of}
+use Rattle.pull_patch.specs.Changes.{Entry, entries_of, confirmed_said}
 
 -- ---- the shape of a response without an error
 
@@ -47,8 +47,8 @@ is_cookie (array ds) = false
 is_cookie (object ms) = has_plain_order (get_member (codes "order") ms)
 
 -- none where the value is no cookie
-unfoldable pub cookie_at : Data → Option Data
-cookie_at d = if is_cookie d then Some d else None
+unfoldable pub cookie_said : Data → Option Data
+cookie_said d = if is_cookie d then Some d else None
 
 -- the three fields as they stand in the tree
 pub record Fields : Type 0 where
@@ -59,7 +59,7 @@ pub record Fields : Type 0 where
 -- all three are there and have their shapes; other fields don't count
 unfoldable pub fields_of : Data → Option Fields
 fields_of d =
-    get (codes "cookie") d >>- cookie_at >>- λ c.
+    get (codes "cookie") d >>- cookie_said >>- λ c.
     object_at (codes "lastMutationIDChanges") d >>- entries_of >>- λ ms.
     array_at (codes "patch") d >>- edits_of >>- λ es.
     Some (record { cookie = c; entries = ms; edits = es })
@@ -69,7 +69,7 @@ fields_of d =
 -- none where a number isn't whole: in the cookie, in a client's id, or in what is put
 unfoldable pub pull_of : Fields → Option Pull
 pull_of f =
-    cookie_of f.cookie >>- λ c. each change_of f.entries >>- λ cs. each operation_of f.edits >>- λ ops.
+    cookie_of f.cookie >>- λ c. each confirmed_said f.entries >>- λ cs. each operation_of f.edits >>- λ ops.
     Some (record { cookie = c; changes = cs; patch = ops })
 
 -- the shape goes first, and whole numbers second

@@ -34,10 +34,10 @@ fn id_of(value: &Value) -> Option<&Number>
 }
 
 // The confirmed id, or none where it isn't whole.
-#[tactic(auto, unfolding(crate::specs::Changes::change_of))]
+#[tactic(auto, unfolding(crate::specs::Changes::confirmed_said))]
 fn change_of(alloc: Global, name: &str, number: &Number) -> Result<Option<Confirmed>, AllocError>
     requires { changes.id_in_range (number_view number.now) ≡ true }
-    ensures value { IfOk result (λ o. o ≡ changes.change_of (changes.entry name.now (number_view number.now))) }
+    ensures value { IfOk result (λ o. o ≡ changes.confirmed_said (changes.entry name.now (number_view number.now))) }
     ensures in_range { IfOk result (λ o. IfSome o (λ c. c.id ≤ 2 ^ 52)) }
 {
     match number.as_u64() {

@@ -9,7 +9,7 @@ ghost use Rattle.serde_json.specs.Data.{Members, object};
 ghost use Rattle.serde_json.specs.View.{view};
 ghost use Rattle.group_history.specs.Pull.{AreInRange};
 ghost use Rattle.pull_patch.specs.Grammar as grammar;
-ghost use Rattle.pull_patch.specs.Inside.Plain.{IsCookie, AreChanges, ReadsCookie, ReadsChanges, ReadsBody};
+ghost use Rattle.pull_patch.specs.Inside.Plain.{IsCookie, AreLastIds, ReadsCookie, ReadsChanges, ReadsBody};
 ghost use Rattle.pull_patch.specs.Inside.Plain.{ReadsPart, ReadsParts, ArePartsOf};
 
 mod copies;
@@ -55,7 +55,7 @@ fn cookie_of(alloc: Global, value: &Value) -> Result<Cookie, PlainStop>
 }
 
 fn changes_of(alloc: Global, value: &Value) -> Result<Vec<Confirmed>, PlainStop>
-    ensures read { IfOk result (λ v. AreChanges (view value.now) v.items) }
+    ensures read { IfOk result (λ v. AreLastIds (view value.now) v.items) }
     ensures in_range { IfOk result (λ v. AreInRange v.items) }
 {
     let Some(members) = value.as_object() else {

@@ -36,7 +36,7 @@ pub(crate) fn is_cookie(value: &Value) -> bool
 
 // Each field is refused with BadShape where it has not its shape, and is none where a number isn't whole.
 
-#[tactic(auto, unfolding(crate::specs::Inside::Parts::cookie_field, crate::specs::Grammar::cookie_at))]
+#[tactic(auto, unfolding(crate::specs::Inside::Parts::cookie_field, crate::specs::Grammar::cookie_said))]
 fn cookie_field(alloc: Global, value: &Value) -> Result<Option<Cookie>, Refusal>
     requires { depth (view value.now) ≤ 127 }
     ensures { AnswersOrNoMemory result (parts.cookie_field (view value.now)) }
@@ -91,7 +91,7 @@ pub(crate) fn joined(
     patch: Option<Vec<Patch>>,
 ) -> Result<Response, Refusal>
     requires { IfSome changes (λ v. AreInRange v.items) }
-    ensures { result ≡ parts.joined cookie (option_map (λ v. v.items) changes) (option_map (λ v. v.items) patch) }
+    ensures { result ≡ parts.united cookie (option_map (λ v. v.items) changes) (option_map (λ v. v.items) patch) }
 {
     let Some(cookie) = cookie else {
         return Err(Refusal::NotWhole);

@@ -16,7 +16,7 @@ use Rattle.reader_claims.specs.Words.{first_slot, slot_at, slot_word}
 use Rattle.reader_claims.specs.Lists.{In}
 use Rattle.reader_claims.specs.Views.{reader, dealer, with_taken, with_settled}
 use Rattle.reader_claims.specs.Machine as machine
-use Rattle.reader_claims.specs.Machine.{Move, Reached, left_by}
+use Rattle.reader_claims.specs.Machine.{Move, Reached, left_there}
 use Rattle.reader_claims.specs.Laws.{BareLaw}
 use Rattle.reader_claims.proofs.Sound.{Sound}
 use Rattle.reader_claims.proofs.Keeps.{at_end}
@@ -122,7 +122,7 @@ bare_law k slot two sized room allowed =
     (λ e. omega arith) ∙ zeros 0 in
     let there' : get_elem? (dealer k 3 ∷ (w ∷ (reader k 2 ∷ []))) 2 ≡ some (reader k 2) = refl in
     let got = allowed (state ws'' (dealer k 3 ∷ (w ∷ (reader k 2 ∷ [])))) lived refl there' (omega arith) in
-    let y : ℕ = left_by 1 0 (get_or ws'' i 0) in let freed : y ≡ 0 = ap (left_by 1 0) is_live in
+    let y : ℕ = left_there 1 0 (get_or ws'' i 0) in let freed : y ≡ 0 = ap (left_there 1 0) is_live in
     let after : List ℕ = set ws'' i y in
     let now : get_or after i 0 ≡ y = get_or-set_same ws'' i y 0 (omega arith) in
     let still : get_or after 0 0 ≡ 0 = get_or-set_other ws'' i 0 y 0 (λ e. omega arith) ∙ epoch in

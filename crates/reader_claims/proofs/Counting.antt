@@ -2,7 +2,8 @@
 use Rattle.std.proofs.Common.{◌≡◌, ℕ, suc, ◌+◌, ◌-◌, ◌≤◌, Bool, true, false, List, [], ◌∷◌, length, Option, Some, None}
 use Rattle.std.proofs.Common.{IsSome, is_some, nat_lt, if◌then◌else◌, refl, sym, ap, ◌∙◌, subst, arith, true≢false}
 use Rattle.std.proofs.lemmas.Bool.{ltb-true, ltb-false}
-use Rattle.reader_claims.specs.Counts.{with_slot, slots_counted, all_slots, oldest, with_pin, pins_counted, CountsSlots}
+use Rattle.reader_claims.specs.Counts.{with_slot, slots_counted, all_slots, oldest, pin_counted, pins_counted}
+use Rattle.reader_claims.specs.Counts.{CountsSlots}
 use Rattle.reader_claims.specs.Counts.{CountsPins, Counts, HasOldest}
 use Rattle.reader_claims.specs.declared.view.Sizes.{Sizes}
 use Rattle.reader_claims.specs.Seats.{first_reserved}
@@ -114,7 +115,7 @@ pin_within n e c d h = let few = h.pinned in record {
   oldest = (λ is. absurd (true≢false (sym (there d.oldest_pin e) ∙ ap is_some is)), λ is. absurd (omega arith));
 }
 
-one_pin : (n : ℕ) (p : Pin) (c d : SlotCounts) → PinsWithin n c d → PinsWithin (n + 1) c (with_pin p d)
+one_pin : (n : ℕ) (p : Pin) (c d : SlotCounts) → PinsWithin n c d → PinsWithin (n + 1) c (pin_counted p d)
 one_pin n Absent c d h = more_within n c d h
 one_pin n (Stored e) c d h = pin_within n e c d h
 one_pin n (Held e) c d h = pin_within n e c d h
@@ -127,10 +128,10 @@ all_pins [] c bare = record {
   pinned = (let p = bare.0 in omega arith);
   oldest = (λ _. bare.0, λ _. bare.1);
 }
-all_pins (p ∷ pins) c bare = subst (λ m. PinsWithin m c (with_pin p (pins_counted pins c))) (next (length pins))
+all_pins (p ∷ pins) c bare = subst (λ m. PinsWithin m c (pin_counted p (pins_counted pins c))) (next (length pins))
     (one_pin (length pins) p c (pins_counted pins c) (all_pins pins c bare))
 
-one_few : (n : ℕ) (p : Pin) (c : SlotCounts) → c.pinned_seats ≤ n → (with_pin p c).pinned_seats ≤ n + 1
+one_few : (n : ℕ) (p : Pin) (c : SlotCounts) → c.pinned_seats ≤ n → (pin_counted p c).pinned_seats ≤ n + 1
 one_few n Absent c few = omega arith
 one_few n (Stored e) c few = omega arith
 one_few n (Held e) c few = omega arith
@@ -138,7 +139,7 @@ one_few n (Held e) c few = omega arith
 pub few_pinned : (pins : List Pin) (c : SlotCounts) → c.pinned_seats ≡ 0
     → (pins_counted pins c).pinned_seats ≤ length pins
 few_pinned [] c none = omega arith
-few_pinned (p ∷ pins) c none = subst (λ m. (with_pin p (pins_counted pins c)).pinned_seats ≤ m) (next (length pins))
+few_pinned (p ∷ pins) c none = subst (λ m. (pin_counted p (pins_counted pins c)).pinned_seats ≤ m) (next (length pins))
     (one_few (length pins) p (pins_counted pins c) (few_pinned pins c none))
 
 -- ---- one look more
@@ -157,7 +158,7 @@ slot_more found r i place w s c d so at here is more = (
 )
 
 pub pin_more : (found : ℕ → ℕ → Type 0) (i place w : ℕ) (p : Pin) (slots c d : SlotCounts) → CountsPins found i slots c
-    → place ≡ pin_at (i + 1) → found place w → pin_word p ≡ w → d ≡ with_pin p c → CountsPins found (i + 1) slots d
+    → place ≡ pin_at (i + 1) → found place w → pin_word p ≡ w → d ≡ pin_counted p c → CountsPins found (i + 1) slots d
 pin_more found i place w p slots c d so at here is more = (
   p ∷ so.0,
   (let all = so.1 in omega arith),
@@ -166,7 +167,7 @@ pin_more found i place w p slots c d so at here is more = (
         (subst (λ n. found n (pin_word p)) at (subst (found place) (sym is) here)),
     so.2,
   ),
-  more ∙ ap (with_pin p) so.3,
+  more ∙ ap (pin_counted p) so.3,
 )
 
 -- ---- what every count says

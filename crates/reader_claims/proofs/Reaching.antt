@@ -22,9 +22,9 @@ use Rattle.reader_claims.specs.Views.{dealer, promoted, IsOpen, with_epoch, with
 use Rattle.reader_claims.specs.Views.{with_settled, with_withdrawn, with_retired, with_missed, with_note, with_look}
 use Rattle.reader_claims.specs.Views.{with_given, sought}
 use Rattle.reader_claims.specs.Machine as machine
-use Rattle.reader_claims.specs.Machine.{Move, Reached, Lawful, left_by}
-use Rattle.reader_claims.specs.Inside.Plays.{Sat, dealt_left, dealt_right, Goes, loaded, stored, cleared, read, raised}
-use Rattle.reader_claims.specs.Inside.Plays.{looked, took, settled, withdrawn, retired, gave}
+use Rattle.reader_claims.specs.Machine.{Move, Reached, Lawful, left_there}
+use Rattle.reader_claims.specs.Inside.Plays.{Sat, dealt_left, dealt_right, GoesTo, loaded, stored, cleared_pin, read}
+use Rattle.reader_claims.specs.Inside.Plays.{raised_epoch, looked_at, took, made_live, withdrawn, retired, gave_slot}
 use Rattle.reader_claims.proofs.Sound.{Sound}
 use Rattle.reader_claims.proofs.Keeps.{St, turned, unturned, own_pin, none_noted, promoted_word, promoted_held, deals}
 use Rattle.reader_claims.proofs.Slotted.{moved, unmoved, ends_at, not_taken, quiet_holds}
@@ -266,7 +266,7 @@ module _ (k : Sizes) where
 
   -- the step, where the view that it tells of is named by an equal number
   told_at : (st : Step (Unit {0})) (m : Sat) (x y : ℕ) (f : ℕ → View) (j j' : ℕ) → j ≡ j' → Move m.0 st.word x y (f j)
-      → Goes st m x y (f j, m.1) (f j')
+      → GoesTo st m x y (f j, m.1) (f j')
   told_at st m x y f j j' e move = (ap (λ q. (f q, m.1)) e, subst (λ q. Move m.0 st.word x y (f q)) e move)
 
   pub loads_as : (n id : ℕ) (m : Sat) → Allows (Lawful k) n id m 0 (λ y. y) (loaded (step n 0 0 0 none) m)
@@ -283,15 +283,15 @@ module _ (k : Sizes) where
       (machine.store_pin was e some_pin few) in
       goes s i id m (λ _. stored (step n i x 0 none) m x) x (with_pin m.0 (Stored e)) r me move
       (λ e' same. let q : e ≡ e' = omega arith in
-      subst (λ y. (x' : ℕ) × Goes (step n i x 0 none) m x' x (with_pin m.0 (Stored e), m.1)
+      subst (λ y. (x' : ℕ) × GoesTo (step n i x 0 none) m x' x (with_pin m.0 (Stored e), m.1)
       (with_pin m.0 (Stored y))) q (was, (refl, move)))
 
   pub clears_as : (n id : ℕ) (m : Sat) (i : ℕ) → i ≡ pin_at m.0.number → 0 < m.0.number → m.0.number ≤ max_seats
-      → Allows (Lawful k) n id m i (λ _. 0) (λ _. cleared (step n i 0 0 none) m 0)
+      → Allows (Lawful k) n id m i (λ _. 0) (λ _. cleared_pin (step n i 0 0 none) m 0)
   clears_as n id m i is some_pin few s r wide me _ = let was : ℕ = get_or s.words i 0 in
       let move : Move m.0 i was 0 (with_pin m.0 Absent) = subst (λ q. Move m.0 q was 0 (with_pin m.0 Absent)) (sym is)
       (machine.clear_pin was some_pin few) in
-      goes s i id m (λ _. cleared (step n i 0 0 none) m 0) 0 (with_pin m.0 Absent) r me move (was, (refl, move))
+      goes s i id m (λ _. cleared_pin (step n i 0 0 none) m 0) 0 (with_pin m.0 Absent) r me move (was, (refl, move))
 
   pub reads_as : (n id : ℕ) (m : Sat) (j : ℕ) → 0 < j → j ≤ max_seats
       → Allows (Lawful k) n id m (pin_at j) (λ y. y) (read (step n (pin_at j) 0 0 none) m)
@@ -316,26 +316,26 @@ module _ (k : Sizes) where
       subst (In v.taken) same (subst (λ (u : View). In u.taken i) it t.2)
 
   pub looks_as : (n id : ℕ) (m : Sat) (i : ℕ) → i < m.0.sizes.slots
-      → Allows (Lawful k) n id m (slot_at i) (λ y. y) (looked (step n (slot_at i) 0 0 none) m)
+      → Allows (Lawful k) n id m (slot_at i) (λ y. y) (looked_at (step n (slot_at i) 0 0 none) m)
   looks_as n id m i room s r wide me _ = let x : ℕ = get_or s.words (slot_at i) 0 in
       let move : Move m.0 (slot_at i) x x (with_look m.0 i x) = machine.lost i (sought x) x room (unsought x) in
-      goes s (slot_at i) id m (looked (step n (slot_at i) 0 0 none) m) x (with_look m.0 i x) r me move
+      goes s (slot_at i) id m (looked_at (step n (slot_at i) 0 0 none) m) x (with_look m.0 i x) r me move
       (λ i' at. let same : i ≡ i' = omega arith in (
         told_at (step n (slot_at i) 0 0 none) m x x (λ q. with_look m.0 q x) i i' same move,
         its_own s (sound s.words s.views r) id m.0 me i i' same room,
       ))
 
-  won_left : (x old new : ℕ) → x ≡ old → left_by old new x ≡ new
+  won_left : (x old new : ℕ) → x ≡ old → left_there old new x ≡ new
   won_left x old new e = ap (λ b. cond b new x) (eq-eqb x old e)
 
-  lost_left : (x old new : ℕ) → x ≢ old → left_by old new x ≡ x
+  lost_left : (x old new : ℕ) → x ≢ old → left_there old new x ≡ x
   lost_left x old new ne = ap (λ b. cond b new x) (ne_eqb x old ne)
 
   pub raises_as : (n id : ℕ) (m : Sat) (old : ℕ) → 0 < m.0.number → old < 2 ^ 60 → old ≤ m.0.reached
-      → Allows (Lawful k) n id m 0 (λ y. either (eqb y old) (old + 1) y) (raised (step n 0 old (old + 1) none) m)
+      → Allows (Lawful k) n id m 0 (λ y. either (eqb y old) (old + 1) y) (raised_epoch (step n 0 old (old + 1) none) m)
   raises_as n id m old some_reader low seen s r wide me _ = let o = sound s.words s.views r in
       let b = o.pins.behind id m.0 me in let x : ℕ = get_or s.words 0 0 in
-      let st : Step (Unit {0}) = step n 0 old (old + 1) none in let T = raised st m in
+      let st : Step (Unit {0}) = step n 0 old (old + 1) none in let T = raised_epoch st m in
       exchanged x old (old + 1) (Steps s 0 id m T)
       (λ hit. let w = with_raise m.0 (old + 1) in
       let move : Move m.0 0 x (old + 1) w = subst (λ q. Move m.0 0 q (old + 1) w) (sym hit)
@@ -343,7 +343,7 @@ module _ (k : Sizes) where
       goes s 0 id m T (old + 1) w r me move (
         refl,
         (let q : old + 1 ≡ max x (old + 1) = omega arith in
-            told_at st m x (left_by old (old + 1) x) (with_raise m.0) (old + 1) (max x (old + 1)) q
+            told_at st m x (left_there old (old + 1) x) (with_raise m.0) (old + 1) (max x (old + 1)) q
             (subst (λ y. Move m.0 0 x y w) (sym (won_left x old (old + 1) hit)) move)),
         b.1,
         o.pins.low,
@@ -352,7 +352,7 @@ module _ (k : Sizes) where
       goes s 0 id m T x w r me move (
         refl,
         (let q : x ≡ max x (old + 1) = omega arith in
-            told_at st m x (left_by old (old + 1) x) (with_raise m.0) x (max x (old + 1)) q
+            told_at st m x (left_there old (old + 1) x) (with_raise m.0) x (max x (old + 1)) q
             (subst (λ y. Move m.0 0 x y w) (sym (lost_left x old (old + 1) miss)) move)),
         b.1,
         o.pins.low,
@@ -361,7 +361,7 @@ module _ (k : Sizes) where
   -- what a lost exchange of the slot i tells
   misses : (s : St) (id n : ℕ) (m : Sat) (i old new : ℕ) (T : ℕ → Sat → Type 0) → Lawful k s
       → get_elem? s.views id ≡ some m.0 → i < m.0.sizes.slots → get_or s.words (slot_at i) 0 ≢ old
-      → (((i' : ℕ) → slot_at i ≡ slot_at i' → Goes (step n (slot_at i) old new none) m (get_or s.words (slot_at i) 0)
+      → (((i' : ℕ) → slot_at i ≡ slot_at i' → GoesTo (step n (slot_at i) old new none) m (get_or s.words (slot_at i) 0)
       (get_or s.words (slot_at i) 0) (with_note m.0 i old (get_or s.words (slot_at i) 0), m.1)
       (with_note m.0 i' old (get_or s.words (slot_at i) 0)))
       → T (get_or s.words (slot_at i) 0) (with_note m.0 i old (get_or s.words (slot_at i) 0), m.1))
@@ -404,10 +404,10 @@ module _ (k : Sizes) where
       )))
 
   pub settles_as : (n id : ℕ) (m : Sat) (i old : ℕ) → In m.0.taken i → old ≡ slot_word (Taken m.0.number)
-      → Allows (Lawful k) n id m (slot_at i) (λ y. either (eqb y old) 1 y) (settled (step n (slot_at i) old 1 none) m)
+      → Allows (Lawful k) n id m (slot_at i) (λ y. either (eqb y old) 1 y) (made_live (step n (slot_at i) old 1 none) m)
   settles_as n id m i old inside is s r wide me _ = let v = m.0 in let o = sound s.words s.views r in
       let number = o.pins.numbered id v me in let there = (o.slots.taken id i v me inside).1 in
-      let x : ℕ = get_or s.words (slot_at i) 0 in let T = settled (step n (slot_at i) old 1 none) m in
+      let x : ℕ = get_or s.words (slot_at i) 0 in let T = made_live (step n (slot_at i) old 1 none) m in
       exchanged x old 1 (Steps s (slot_at i) id m T)
       (λ hit. let w = with_settled v i in let move : Move v (slot_at i) x 1 w = subst (λ q. Move v (slot_at i) q 1 w)
       (sym (hit ∙ is)) (machine.settle i inside) in
@@ -468,16 +468,16 @@ module _ (k : Sizes) where
       ))
 
   pub gives_as : (n id : ℕ) (m : Sat) (i r old : ℕ) → i < m.0.sizes.slots → IsOpen m.0 r → old ≡ slot_word (Retired r)
-      → Allows (Lawful k) n id m (slot_at i) (λ y. either (eqb y old) 0 y) (gave (step n (slot_at i) old 0 none) m)
+      → Allows (Lawful k) n id m (slot_at i) (λ y. either (eqb y old) 0 y) (gave_slot (step n (slot_at i) old 0 none) m)
   gives_as n id m i r old room open_at is s reached wide me _ = let v = m.0 in
-      let x : ℕ = get_or s.words (slot_at i) 0 in let T = gave (step n (slot_at i) old 0 none) m in
+      let x : ℕ = get_or s.words (slot_at i) 0 in let T = gave_slot (step n (slot_at i) old 0 none) m in
       exchanged x old 0 (Steps s (slot_at i) id m T)
       (λ hit. let w = with_given v i r in let move : Move v (slot_at i) x 0 w = subst (λ q. Move v (slot_at i) q 0 w)
       (sym (hit ∙ is)) (machine.give i r room open_at) in
       goes s (slot_at i) id m T 0 w reached me move (
         refl,
         λ i' e at at_e. let same : i ≡ i' = omega arith in let same_r : r ≡ e = omega arith in (
-          (λ z. subst (λ q. Goes (step n (slot_at i) old 0 none) m x 0 (with_given v i r, m.1) (with_given v i' q))
+          (λ z. subst (λ q. GoesTo (step n (slot_at i) old 0 none) m x 0 (with_given v i r, m.1) (with_given v i' q))
               same_r (told_at (step n (slot_at i) old 0 none) m x 0 (λ j. with_given v j r) i i' same move)),
           λ ne. absurd (ne hit),
         ),
@@ -492,8 +492,8 @@ module _ (k : Sizes) where
       (sym at) (reads_as n id m j some_pin few)
 
   pub looks_at : (n id : ℕ) (m : Sat) (i p : ℕ) → p ≡ slot_at i → i < m.0.sizes.slots
-      → Allows (Lawful k) n id m p (λ y. y) (looked (step n p 0 0 none) m)
-  looks_at n id m i p at room = subst (λ q. Allows (Lawful k) n id m q (λ y. y) (looked (step n q 0 0 none) m))
+      → Allows (Lawful k) n id m p (λ y. y) (looked_at (step n p 0 0 none) m)
+  looks_at n id m i p at room = subst (λ q. Allows (Lawful k) n id m q (λ y. y) (looked_at (step n q 0 0 none) m))
       (sym at) (looks_as n id m i room)
 
   pub takes_at : (n id : ℕ) (m : Sat) (i new p : ℕ) → p ≡ slot_at i → 0 < m.0.number → i < m.0.sizes.slots
@@ -505,9 +505,9 @@ module _ (k : Sizes) where
 
   pub settles_at : (n id : ℕ) (m : Sat) (i old p : ℕ) → p ≡ slot_at i → In m.0.taken i
       → old ≡ slot_word (Taken m.0.number) → Allows (Lawful k) n id m p (λ y. either (eqb y old) 1 y)
-      (settled (step n p old 1 none) m)
+      (made_live (step n p old 1 none) m)
   settles_at n id m i old p at inside is = subst
-      (λ q. Allows (Lawful k) n id m q (λ y. either (eqb y old) 1 y) (settled (step n q old 1 none) m)) (sym at)
+      (λ q. Allows (Lawful k) n id m q (λ y. either (eqb y old) 1 y) (made_live (step n q old 1 none) m)) (sym at)
       (settles_as n id m i old inside is)
 
   pub withdraws_at : (n id : ℕ) (m : Sat) (i old p : ℕ) → p ≡ slot_at i → In m.0.taken i
@@ -526,7 +526,7 @@ module _ (k : Sizes) where
 
   pub gives_at : (n id : ℕ) (m : Sat) (i r old p : ℕ) → p ≡ slot_at i → i < m.0.sizes.slots → IsOpen m.0 r
       → old ≡ slot_word (Retired r) → Allows (Lawful k) n id m p (λ y. either (eqb y old) 0 y)
-      (gave (step n p old 0 none) m)
+      (gave_slot (step n p old 0 none) m)
   gives_at n id m i r old p at room open_at is = subst
-      (λ q. Allows (Lawful k) n id m q (λ y. either (eqb y old) 0 y) (gave (step n q old 0 none) m)) (sym at)
+      (λ q. Allows (Lawful k) n id m q (λ y. either (eqb y old) 0 y) (gave_slot (step n q old 0 none) m)) (sym at)
       (gives_as n id m i r old room open_at is)

@@ -6,7 +6,7 @@ use Rattle.atomic_table.specs.Seated.{TableId}
 use Rattle.reader_claims.specs.declared.view.View.{View}
 use Rattle.group_history.specs.Refs.{max_seats}
 use Rattle.reader_claims.specs.Views.{with_retired, with_missed}
-use Rattle.reader_claims.specs.Machine.{Move, left_by}
+use Rattle.reader_claims.specs.Machine.{Move, left_there}
 use Rattle.reader_claims.specs.Inside.Plays.{Sat}
 use Rattle.reader_claims.specs.Passes.{IsButRetired}
 use Rattle.reader_claims.specs.Seats.{ClaimsId}
@@ -43,7 +43,7 @@ went m n p q x y w at g = subst (λ (u : View). Move m.0 q x y u) (sym (ap (λ (
 
 -- the step of an exchange, won or lost
 pub left_move : (x old new i : ℕ) (v w : View) → (x ≡ old → Move v i x new w) → (x ≢ old → Move v i x x w)
-    → Move v i x (left_by old new x) w
+    → Move v i x (left_there old new x) w
 left_move x old new i v w won lost = dite (ℕ_discrete x old)
     (λ e. subst (λ y. Move v i x y w) (sym (ap (λ b. cond b new x) (eq-eqb x old e))) (won e))
     (λ ne. subst (λ y. Move v i x y w) (sym (ap (λ b. cond b new x) (ne_eqb x old ne))) (lost ne))

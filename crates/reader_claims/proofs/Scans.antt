@@ -16,7 +16,7 @@ use Rattle.reader_claims.specs.Passes.{passed, found, retired_at, Looks, OnlyTak
 use Rattle.reader_claims.specs.Passes.{FoundNone, KnowsNone}
 use Rattle.reader_claims.specs.Seats.{KeepsPin}
 use Rattle.reader_claims.proofs.Raising.{keeps_promoted}
-use Rattle.reader_claims.specs.Inside.Scans.{Later, HasFound}
+use Rattle.reader_claims.specs.Inside.Scans.{Later, HasFoundWord}
 use Rattle.reader_claims.specs.declared.view.View.{View}
 use Rattle.reader_claims.specs.declared.words.SlotState.{SlotState}
 use Rattle.reader_claims.specs.declared.words.SlotState.TheVariants.{Free, Taken, Live, Retired}
@@ -105,17 +105,17 @@ later_look v u i w is = later_note v u i (sought w) w is
 
 -- a look that found the slot not free
 pub found_by_look : (v u : View) (i w : ℕ) → u ≡ with_look v i w → (w ≡ slot_word (Taken v.number) → In v.taken i)
-    → w ≢ 0 → HasFound v i w u
+    → w ≢ 0 → HasFoundWord v i w u
 found_by_look v u i w is own h =
     (v, later_self v, refl, is ∙ ap (λ (old : ℕ). with_note v i old w) (sought_free w h), own)
 
 -- a take after a look
 pub found_by_take : (v m u : View) (i seen w : ℕ) → m ≡ with_look v i seen → u ≡ with_note m i 0 w
-    → (w ≡ slot_word (Taken m.number) → In m.taken i) → HasFound v i w u
+    → (w ≡ slot_word (Taken m.number) → In m.taken i) → HasFoundWord v i w u
 found_by_take v m u i seen w look is own = (m, later_look v m i seen look, ap (λ (y : View). y.taken) look, is, own)
 
 -- a slot that was found so is given, and then taken
-pub taken_after_give : (v u t x : View) (i w r : ℕ) → HasFound v i w u → t ≡ with_given u i r → (In t.taken i → ⊥)
+pub taken_after_give : (v u t x : View) (i w r : ℕ) → HasFoundWord v i w u → t ≡ with_given u i r → (In t.taken i → ⊥)
     → x ≡ with_taken t i → Takes v x i
 taken_after_give v u t x i w r had given fresh won = let same : t.taken ≡ v.taken = ap (λ (y : View). y.taken) given
     ∙ ap (λ (y : View). y.taken) had.3 ∙ had.2 in (

@@ -50,14 +50,14 @@ abbrev pub oldest : Option ℕ → ℕ → Option ℕ
 oldest None e = Some e
 oldest (Some old) e = Some (min old e)
 
-abbrev pub with_pin : Pin → SlotCounts → SlotCounts
-with_pin Absent c = c
-with_pin (Stored e) c = record c { pinned_seats = c.pinned_seats + 1; oldest_pin = oldest c.oldest_pin e }
-with_pin (Held e) c = record c { pinned_seats = c.pinned_seats + 1; oldest_pin = oldest c.oldest_pin e }
+abbrev pub pin_counted : Pin → SlotCounts → SlotCounts
+pin_counted Absent c = c
+pin_counted (Stored e) c = record c { pinned_seats = c.pinned_seats + 1; oldest_pin = oldest c.oldest_pin e }
+pin_counted (Held e) c = record c { pinned_seats = c.pinned_seats + 1; oldest_pin = oldest c.oldest_pin e }
 
 abbrev pub pins_counted : List Pin → SlotCounts → SlotCounts
 pins_counted [] c = c
-pins_counted (pin ∷ pins) c = with_pin pin (pins_counted pins c)
+pins_counted (pin ∷ pins) c = pin_counted pin (pins_counted pins c)
 
 -- ---- a count
 

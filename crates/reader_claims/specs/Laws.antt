@@ -12,7 +12,7 @@ use Rattle.group_history.specs.Refs.{max_seats}
 use Rattle.reader_claims.specs.Words.{epoch_at, pin_at, slot_at, slot_word}
 use Rattle.reader_claims.specs.Lists.{In, Noted}
 use Rattle.reader_claims.specs.Views.{reader, IsOpen}
-use Rattle.reader_claims.specs.Machine.{Move, Reached, Lawful, left_by}
+use Rattle.reader_claims.specs.Machine.{Move, Reached, Lawful, left_there}
 
 -- A seat that knows v and holds a pin e holds each slot that is live, or retired above e
 abbrev pub Holds : List ℕ → View → ℕ → Type 0
@@ -36,20 +36,20 @@ pub record Situation : Type 0 where
   pub two : SeatOf views
 
 -- what the word i holds
-abbrev pub word : Situation → ℕ → ℕ
-word s i = slice_index s.words i
+abbrev pub word_at : Situation → ℕ → ℕ
+word_at s i = slice_index s.words i
 
 -- the epoch
 abbrev pub epoch : Situation → ℕ
-epoch s = word s epoch_at
+epoch s = word_at s epoch_at
 
 -- what the word of the slot i holds
 abbrev pub slot : Situation → ℕ → ℕ
-slot s i = word s (slot_at i)
+slot s i = word_at s (slot_at i)
 
 -- the seat one may step: the word i becomes y, and what the seat knows becomes w
 abbrev pub Steps : Situation → ℕ → ℕ → View → Type 0
-Steps s i y w = Move s.one.view i (word s i) y w
+Steps s i y w = Move s.one.view i (word_at s i) y w
 
 -- No slot is given while a reader holds it: no step of any seat leaves it free
 abbrev pub HoldLaw : Type 0
@@ -71,7 +71,7 @@ EpochLaw = (s : Situation) (i y : ℕ) (w : View) → Steps s i y w → epoch s 
 -- A pin that is held stands in the word of its seat, and is at most the epoch. So where a seat loads the epoch as n, n
 -- + 1 is above each pin held then
 abbrev pub HeldLaw : Type 0
-HeldLaw = (s : Situation) (e : ℕ) → s.one.view.pin ≡ Held e → (word s (pin_at s.one.place) ≡ e + 1) × (e ≤ epoch s)
+HeldLaw = (s : Situation) (e : ℕ) → s.one.view.pin ≡ Held e → (word_at s (pin_at s.one.place) ≡ e + 1) × (e ≤ epoch s)
 
 -- Each number at which a slot is retired is at most the epoch
 abbrev pub RetiredLaw : Type 0
@@ -109,5 +109,5 @@ StepLaw = (s : Situation) (i y : ℕ) (w : View) → Steps s i y w
 -- becomes of the view of the seat (here of one that has seen nothing)
 abbrev pub BareLaw : Type 0
 BareLaw = (k : Sizes) (i : ℕ) → 1 < k.readers → k.readers ≤ max_seats → i < k.slots
-    → Allows (Lawful k) 0 2 (reader k 2, []) (slot_at i) (left_by (slot_word Live) (slot_word Free))
+    → Allows (Lawful k) 0 2 (reader k 2, []) (slot_at i) (left_there (slot_word Live) (slot_word Free))
     (λ _ _. Unit {0}) → ⊥

@@ -44,8 +44,8 @@ pub data Move (v : View) : ℕ → ℕ → ℕ → View → Type 0 where
   miss : (i x : ℕ) → i < v.sizes.slots → x ≢ slot_word Live → Move v (slot_at i) x x (with_missed v i x)
 
 -- what an exchange from old to new leaves where it found x
-abbrev pub left_by : ℕ → ℕ → ℕ → ℕ
-left_by old new x = cond (x == old) new x
+abbrev pub left_there : ℕ → ℕ → ℕ → ℕ
+left_there old new x = cond (x == old) new x
 
 -- Steps of one seat, one after another, which take its view from v to w
 pub data Moves : View → View → Type 0 where

@@ -14,17 +14,18 @@ StandTogether run notes = (front back : List Note) × (notes ≡ front ++ (run +
 
 -- ---- how the logic stores a note
 
-abbrev in_numbers : Note → ℕ × (ℕ × (ℕ × ℕ))
-in_numbers (lost slot sought there) = (0, (slot, (sought, there)))
-in_numbers (gave slot r) = (1, (slot, (r, 0)))
+abbrev note_in_numbers : Note → ℕ × (ℕ × (ℕ × ℕ))
+note_in_numbers (lost slot sought there) = (0, (slot, (sought, there)))
+note_in_numbers (gave slot r) = (1, (slot, (r, 0)))
 
-abbrev from_numbers : ℕ × (ℕ × (ℕ × ℕ)) → Note
-from_numbers n = cond (n.0 == 0) (lost n.1.0 n.1.1.0 n.1.1.1) (gave n.1.0 n.1.1.0)
+abbrev note_from_numbers : ℕ × (ℕ × (ℕ × ℕ)) → Note
+note_from_numbers n = cond (n.0 == 0) (lost n.1.0 n.1.1.0 n.1.1.1) (gave n.1.0 n.1.1.0)
 
-pub from_numbers-in_numbers : (note : Note) → from_numbers (in_numbers note) ≡ note
-from_numbers-in_numbers (lost slot sought there) = refl
-from_numbers-in_numbers (gave slot r) = refl
+pub note_from_numbers-note_in_numbers : (note : Note) → note_from_numbers (note_in_numbers note) ≡ note
+note_from_numbers-note_in_numbers (lost slot sought there) = refl
+note_from_numbers-note_in_numbers (gave slot r) = refl
 
 abbrev pub notes_code : Coded (List Note)
 notes_code = coded_list (code_by (ℕ × (ℕ × (ℕ × ℕ)))
-    (coded× coded_ℕ (coded× coded_ℕ (coded× coded_ℕ coded_ℕ))) in_numbers from_numbers from_numbers-in_numbers)
+    (coded× coded_ℕ (coded× coded_ℕ
+    (coded× coded_ℕ coded_ℕ))) note_in_numbers note_from_numbers note_from_numbers-note_in_numbers)

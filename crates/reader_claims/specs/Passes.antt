@@ -41,8 +41,8 @@ unpinned v a b = record v {
 }
 
 -- the pin is held at e, which both loads read
-abbrev pub IsPinned : View → View → ℕ → Type 0
-IsPinned v u e = (u ≡ pinned v e) × (v.reached ≤ e) × (e ≤ 2 ^ 60)
+abbrev pub IsPinnedAt : View → View → ℕ → Type 0
+IsPinnedAt v u e = (u ≡ pinned v e) × (v.reached ≤ e) × (e ≤ 2 ^ 60)
 
 -- the pin is absent, and the second load read more than the first: others raised the epoch
 abbrev pub IsUnpinned : View → View → Type 0

@@ -42,10 +42,10 @@ ghost use Rattle.reader_claims.specs.Lists.{In};
 ghost use Rattle.reader_claims.specs.Views.{with_epoch, with_pin, with_raise, with_settled, with_withdrawn};
 ghost use Rattle.reader_claims.specs.Words.{epoch_at, pin_at, slot_at, slot_word};
 ghost use Rattle.reader_claims.specs.declared.words.SlotState.TheVariants.{Free, Taken, Live, Retired};
-ghost use Rattle.reader_claims.specs.Machine.{Move, Moves, left_by};
+ghost use Rattle.reader_claims.specs.Machine.{Move, Moves, left_there};
 ghost use Rattle.reader_claims.specs.Seats.{AreSeats, first_reserved, kind_end};
 ghost use Rattle.reader_claims.specs.Counts.{Counts, Found, HasOldest, OnlyLooks, all_slots};
-ghost use Rattle.reader_claims.specs.Passes.{IsPinned, IsUnpinned, IsRetired, IsButRetired, IsGiven, IsNotGiven};
+ghost use Rattle.reader_claims.specs.Passes.{IsPinnedAt, IsUnpinned, IsRetired, IsButRetired, IsGiven, IsNotGiven};
 ghost use Rattle.reader_claims.specs.Passes.{Takes, Looks, FindsNone, FoundNone, KnowsNone};
 
 use crate::counts::SlotCounts;
@@ -179,7 +179,7 @@ impl Claims {
         ensures table { seat.new.table ≡ seat.old.table }
         ensures moves { Moves seat.old.view seat.new.view }
         ensures held { MatchResult result
-            (λ e. IsPinned seat.old.view seat.new.view e)
+            (λ e. IsPinnedAt seat.old.view seat.new.view e)
             (λ _. IsUnpinned seat.old.view seat.new.view) }
     {
         seat.passed = false;
@@ -207,7 +207,7 @@ impl Claims {
         requires table { seat.old.table ≡ self.now }
         requires seen { (n < 2 ^ 60) × (n ≤ seat.old.view.reached) }
         ensures table { seat.new.table ≡ seat.old.table }
-        ensures step { (x : ℕ) × Move seat.old.view epoch_at x (left_by n (n + 1) x) seat.new.view }
+        ensures step { (x : ℕ) × Move seat.old.view epoch_at x (left_there n (n + 1) x) seat.new.view }
         ensures view { seat.new.view ≡ with_raise seat.old.view seat.new.view.reached }
         ensures reached { (n < seat.new.view.reached) × (seat.old.view.reached ≤ seat.new.view.reached)
             × (seat.new.view.reached ≤ 2 ^ 60) }
@@ -279,7 +279,7 @@ impl Claims {
         requires raised { (r ≡ seat.old.view.loaded + 1) × (seat.old.view.loaded < seat.old.view.reached) }
         ensures table { seat.new.table ≡ seat.old.table }
         ensures step { (x : ℕ) × Move seat.old.view (slot_at slot)
-            x (left_by (slot_word Live) (slot_word (Retired r)) x) seat.new.view }
+            x (left_there (slot_word Live) (slot_word (Retired r)) x) seat.new.view }
         ensures retired { IsRetired seat.old.view seat.new.view slot r }
         ensures kept { IsButRetired seat.old.view seat.new.view }
     {

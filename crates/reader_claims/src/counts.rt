@@ -5,7 +5,7 @@
 //! a step of the seat, which notes what it found: a count can tell of nothing that its seat did not look at.
 ghost use Rattle.std.specs.Prelude.{◌≡◌, ℕ, ◌+◌, ◌-◌, ◌^◌, ◌<◌, ◌≤◌, ◌++◌, List};
 ghost use Rattle.reader_claims.specs.Counts.{Counts, CountsSlots, CountsPins, Found, HasOldest, OnlyLooks};
-ghost use Rattle.reader_claims.specs.Counts.{all_slots, with_pin, with_slot};
+ghost use Rattle.reader_claims.specs.Counts.{all_slots, pin_counted, with_slot};
 ghost use Rattle.reader_claims.specs.Machine.{Moves};
 ghost use Rattle.reader_claims.specs.Notes.{Note};
 ghost use Rattle.reader_claims.specs.Seats.{first_reserved};
@@ -50,7 +50,7 @@ impl SlotCounts {
     // The pin of one seat more.
     fn add_pin(&mut self, pin: Pin)
         requires { self.old.pinned_seats < 2 ^ 32 - 1 }
-        ensures { self.new ≡ with_pin pin self.old }
+        ensures { self.new ≡ pin_counted pin self.old }
     {
         let (Pin::Stored(epoch) | Pin::Held(epoch)) = pin else {
             return;

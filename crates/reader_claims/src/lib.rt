@@ -1,7 +1,9 @@
-//! Which slot is free: epoch-based reclamation, with the states of the slots beside the epoch and the pins.
+//! Which slot (cell of an arena) is free: epoch-based reclamation, with the states of the slots beside the epoch and the
+//! pins (guards).
 //!
-//! The epoch is a number that never falls, at most 2^60. A seat's pin is absent or an epoch. A slot is Free, Taken by a
-//! seat, Live, or Retired at an epoch. `claims` tells the protocol and why it is safe.
+//! The epoch is a number that never falls, at most 2^60. The pin of a seat (a handle at the collector) is absent or an
+//! epoch. A slot is Free, Taken by a seat, Live, or Retired at an epoch, which defers its free. `claims` tells the
+//! protocol and why it is safe.
 //!
 //! A pin is *held* where the epoch was loaded with its number after it was stored. A seat that holds a pin e *holds*
 //! each slot that is Live, or Retired above e. No slot is given while a seat holds it: that is

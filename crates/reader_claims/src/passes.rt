@@ -9,7 +9,7 @@ ghost use Rattle.reader_claims.specs.Machine.{Moves};
 ghost use Rattle.reader_claims.specs.Seats.{first_reserved, kind_end};
 ghost use Rattle.reader_claims.specs.Passes.{passed, Takes, Looks, IsGiven, IsNotGiven, WhyShut, AreShut, FindsNone};
 ghost use Rattle.reader_claims.specs.Passes.{FoundNone, KnowsNone};
-ghost use Rattle.reader_claims.specs.Inside.Scans.{Later, HasFound};
+ghost use Rattle.reader_claims.specs.Inside.Scans.{Later, HasFoundWord};
 
 use crate::slot::Kind;
 use crate::steps::{TableSeat, Words};
@@ -102,7 +102,7 @@ impl Words {
         ensures moves { Moves (view reader.old) (view reader.new) }
         ensures later { Later (view reader.old) (view reader.new) }
         ensures won { result ≡ slot_word Free → Takes (view reader.old) (view reader.new) slot }
-        ensures lost { result ≢ slot_word Free → HasFound (view reader.old) slot result (view reader.new) }
+        ensures lost { result ≢ slot_word Free → HasFoundWord (view reader.old) slot result (view reader.new) }
     {
         let seen = self.look_slot(reader, slot);
         if seen != FREE {

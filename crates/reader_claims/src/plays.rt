@@ -1,8 +1,8 @@
 // The rule of the table, and what each kind of step tells.
 ghost use Rattle.reader_claims.specs.Views.{dealer};
 ghost use Rattle.reader_claims.specs.Machine.{Lawful};
-ghost use Rattle.reader_claims.specs.Inside.Plays.{dealt_left, dealt_right, loaded, stored, cleared, read, raised};
-ghost use Rattle.reader_claims.specs.Inside.Plays.{looked, took, gave, settled, withdrawn, retired};
+ghost use Rattle.reader_claims.specs.Inside.Plays.{dealt_left, dealt_right, loaded, stored, cleared_pin, raised_epoch};
+ghost use Rattle.reader_claims.specs.Inside.Plays.{read, looked_at, took, gave_slot, made_live, withdrawn, retired};
 
 use crate::view::{Sizes, View};
 use atomic_table::{Play, Split, TableRule};
@@ -38,7 +38,7 @@ impl Play<(), View> for StorePin {
 pub(crate) struct ClearPin;
 
 impl Play<(), View> for ClearPin {
-    ghost then = { cleared };
+    ghost then = { cleared_pin };
 }
 
 pub(crate) struct LoadPin;
@@ -50,13 +50,13 @@ impl Play<(), View> for LoadPin {
 pub(crate) struct LookSlot;
 
 impl Play<(), View> for LookSlot {
-    ghost then = { looked };
+    ghost then = { looked_at };
 }
 
 pub(crate) struct RaiseEpoch;
 
 impl Play<(), View> for RaiseEpoch {
-    ghost then = { raised };
+    ghost then = { raised_epoch };
 }
 
 pub(crate) struct Take;
@@ -68,7 +68,7 @@ impl Play<(), View> for Take {
 pub(crate) struct Settle;
 
 impl Play<(), View> for Settle {
-    ghost then = { settled };
+    ghost then = { made_live };
 }
 
 pub(crate) struct Withdraw;
@@ -86,5 +86,5 @@ impl Play<(), View> for Retire {
 pub(crate) struct Give;
 
 impl Play<(), View> for Give {
-    ghost then = { gave };
+    ghost then = { gave_slot };
 }

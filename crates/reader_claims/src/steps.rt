@@ -10,7 +10,7 @@ ghost use Rattle.reader_claims.specs.Views.{IsOpen, with_epoch, with_pin, with_r
 ghost use Rattle.reader_claims.specs.Views.{with_settled, with_withdrawn, with_retired, with_missed, with_given};
 ghost use Rattle.reader_claims.specs.Views.{with_note, with_look};
 ghost use Rattle.reader_claims.specs.Passes.{IsButRetired};
-ghost use Rattle.reader_claims.specs.Machine.{Move, left_by};
+ghost use Rattle.reader_claims.specs.Machine.{Move, left_there};
 
 use crate::plays::{
     Claimed, ClearPin, Give, LoadEpoch, LoadPin, LookSlot, RaiseEpoch, Retire, Settle, StorePin,
@@ -119,7 +119,7 @@ impl Words {
         ensures table { reader_id reader.new ≡ reader_id reader.old }
         ensures view { view reader.new ≡ with_raise (view reader.old) (max result (n + 1)) }
         ensures bound { ((view reader.old).reached ≤ result) × (result ≤ 2 ^ 60) }
-        ensures step { Move (view reader.old) epoch_at result (left_by n (n + 1) result) (view reader.new) }
+        ensures step { Move (view reader.old) epoch_at result (left_there n (n + 1) result) (view reader.new) }
     {
         reader.bound = 0;
         self.table
@@ -138,7 +138,7 @@ impl Words {
         ensures own { result ≢ slot_word Free → result ≡ slot_word (Taken (view reader.old).number)
             → In (view reader.old).taken slot }
         ensures step { Move (view reader.old) (slot_at slot)
-            result (left_by (slot_word Free) (slot_word (Taken (view reader.old).number)) result) (view reader.new) }
+            result (left_there (slot_word Free) (slot_word (Taken (view reader.old).number)) result) (view reader.new) }
     {
         let mine = SlotState::Taken(reader.number as u64).word();
         self.table
@@ -184,7 +184,7 @@ impl Words {
             → view reader.new ≡ with_missed (view reader.old) slot result }
         ensures kept { IsButRetired (view reader.old) (view reader.new) }
         ensures step { Move (view reader.old) (slot_at slot)
-            result (left_by (slot_word Live) (slot_word (Retired r)) result) (view reader.new) }
+            result (left_there (slot_word Live) (slot_word (Retired r)) result) (view reader.new) }
     {
         let retired = SlotState::Retired(r).word();
         self.table
@@ -201,7 +201,7 @@ impl Words {
         ensures lost { result ≢ slot_word (Retired r)
             → view reader.new ≡ with_note (view reader.old) slot (slot_word (Retired r)) result }
         ensures step { Move (view reader.old) (slot_at slot)
-            result (left_by (slot_word (Retired r)) (slot_word Free) result) (view reader.new) }
+            result (left_there (slot_word (Retired r)) (slot_word Free) result) (view reader.new) }
     {
         let retired = SlotState::Retired(r).word();
         self.table

@@ -14,11 +14,11 @@ use Rattle.change_tries.specs.Proposing.{AsksNext, StaysFound}
 use Rattle.change_tries.specs.declared.views.Rooted.{Rooted}
 use Rattle.change_tries.proofs.Finding.{last_grown}
 use Rattle.change_tries.proofs.Rooting.{roots_stay}
-use Rattle.rebase.specs.Inside.Keeping.{Keeps}
+use Rattle.rebase.specs.Inside.Keeping.{KeepsClient}
 
 pub keeps_later : (reused : Type 0) (group : GroupId) (old new : SeatState) (id : Bytes) (last : ℕ) (found : Ref)
     (latest : Option Rooted) → IsSameSeat old new → (reused → new.view.taken ≡ [])
-    → Keeps reused group old id last found latest → Keeps reused group new id last found latest
+    → KeepsClient reused group old id last found latest → KeepsClient reused group new id last found latest
 keeps_later reused group old new id last found latest same none k = record {
   home = (same.later.book ∙ k.home.0, same.table ∙ k.home.1);
   none = none;
@@ -31,8 +31,8 @@ keeps_later reused group old new id last found latest same none k = record {
 pub keeps_found : (reused : Type 0) (group : GroupId) (old new : SeatState) (id : Bytes) (last : ℕ) (found : Ref)
     (latest : Option Rooted) (now : LastId) (c : Change) → AsksNext id last c
     → StaysFound (drawn new.mark.log) (record { at = found; id = last }) now c → IsSameSeat old new
-    → (reused → new.view.taken ≡ []) → Keeps reused group old id last found latest
-    → Keeps reused group new id last now.at latest
+    → (reused → new.view.taken ≡ []) → KeepsClient reused group old id last found latest
+    → KeepsClient reused group new id last now.at latest
 keeps_found reused group old new id last found latest now (Mutated x) next is same none k = record {
   home = (same.later.book ∙ k.home.0, same.table ∙ k.home.1);
   none = none;
@@ -42,10 +42,10 @@ keeps_found reused group old new id last found latest now (Mutated x) next is sa
   rooted = roots_stay old.mark.log new.mark.log latest same.later.seen k.rooted;
 }
 keeps_found reused group old new id last found latest now (Pulled t r) next is same none k =
-    subst (λ (at : Ref). Keeps reused group new id last at latest) (ap (λ (l : LastId). l.at) (sym is))
+    subst (λ (at : Ref). KeepsClient reused group new id last at latest) (ap (λ (l : LastId). l.at) (sym is))
     (keeps_later reused group old new id last found latest same none k)
 keeps_found reused group old new id last found latest now Closed next is same none k =
-    subst (λ (at : Ref). Keeps reused group new id last at latest) (ap (λ (l : LastId). l.at) (sym is))
+    subst (λ (at : Ref). KeepsClient reused group new id last at latest) (ap (λ (l : LastId). l.at) (sym is))
     (keeps_later reused group old new id last found latest same none k)
 
 -- what holds where a call was answered

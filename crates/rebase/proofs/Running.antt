@@ -57,7 +57,7 @@ use Rattle.rebase.specs.Asking.{change_wanted, end_bytes_reply}
 use Rattle.rebase.specs.Calls.{ended_in}
 use Rattle.rebase.specs.Clients.{AfterChange, ClientState, IsSameClient, AfterQuery}
 use Rattle.rebase.specs.Inside.Made.{closing_ended, reply_made}
-use Rattle.rebase.specs.Inside.Shown.{IsShown, under_way}
+use Rattle.rebase.specs.Inside.Shown.{IsRunShown, under_way}
 use Rattle.rebase.specs.Replies.{Replied, ended, id, reply_seen}
 use Rattle.rebase.specs.Running.{AsksFor, BeganAs, EndsCall, EndsPull, Follows, IsAsked, IsFirstAsked, IsFirstAt}
 use Rattle.rebase.specs.Running.{IsJudgedAt, IsUnwritten, UnderWay, change_replied, change_reply, last_called}
@@ -460,7 +460,7 @@ first_at has s Closed cs client a tries h = tt
 -- the first run of a call
 pub first_shown : (has : Bytes → Bool) (client : ClientState) (c : Change) (tries n : ℕ) {M : Type 0}
     (p : Progress M) {X S T : Type 0}
-    (asking : Asked X S T) → TellsAsked asking (IsShown client c tries p) (λ client reply. Unit {0})
+    (asking : Asked X S T) → TellsAsked asking (IsRunShown client c tries p) (λ client reply. Unit {0})
     → StartsAnew has n c p
     → TellsAsked asking (IsFirstAsked has) (λ client reply. Unit {0})
 first_shown has client c tries n (progress.Run a) (asked.Run u) h start =
@@ -491,7 +491,7 @@ next_run has means old client c tries was a ran (inr g) =
 pub next_shown : (has : Bytes → Bool) (means : Meanings) (old client : ClientState) (c : Change)
     (tries : ℕ) {M : Type 0} (was : Attempt M) (ran : Ran)
     (p : Progress M) {X S T : Type 0} (asking : Asked X S T)
-    → TellsAsked asking (IsShown client c tries p) (λ client reply. Unit {0})
+    → TellsAsked asking (IsRunShown client c tries p) (λ client reply. Unit {0})
     → FollowsRun has means old.seat client.seat was ran c p
     → TellsAsked asking (Follows has means (under_way old c was tries) ran) (λ client reply. Unit {0})
 next_shown has means old client c tries was ran (progress.Run a) (asked.Run u) h f =
@@ -503,7 +503,7 @@ next_shown has means old client c tries was ran (progress.Ended made) (asked.End
 
 -- what is shown where a run is asked for
 pub shown_run : (client self : ClientState) (c : Change) (tries : ℕ) {M : Type 0} (p : Progress M) (a : Attempt M)
-    → p ≡ progress.Run a → client ≡ self → IsShown self c tries p (under_way client c a tries)
+    → p ≡ progress.Run a → client ≡ self → IsRunShown self c tries p (under_way client c a tries)
 shown_run client self c tries {M} p a is same =
-    subst (λ (w : Progress M). IsShown self c tries w (under_way client c a tries)) (sym is)
+    subst (λ (w : Progress M). IsRunShown self c tries w (under_way client c a tries)) (sym is)
     (ap (λ (w : ClientState). under_way w c a tries) same)

@@ -10,7 +10,7 @@ use Rattle.group_history.specs.State.{last_id}
 use Rattle.push_body.specs.declared.identities.Identity.{Identity}
 use Rattle.logbook.specs.Pages.{Book}
 use Rattle.head_word.specs.declared.entry.Entry.{Entry}
-use Rattle.head_word.specs.Books.{opening, opening_ref}
+use Rattle.head_word.specs.Books.{book_opening, opening_ref}
 use Rattle.head_word.specs.Marks.{known}
 use Rattle.chunk_slots.specs.Seats.{IsIdle, IsOpening, IsPinned}
 use Rattle.commit_graph.specs.Seats.{GroupId, HasLooked, IsSameSeat, IsSeatOf, SeatState, is_held}
@@ -39,7 +39,7 @@ AreNumbered book log n seats = (i : ℕ) (d : SeatState) → i < length seats
 -- seat did anything else to slots.
 pub record AreOpening (reused : Type 0) (count : ℕ) (group : GroupId) (seats : List SeatState) : Type 0 where
   pub commit : ℕ
-  pub marks : AreNumbered group.book (opening count (opening_ref commit)) count seats
+  pub marks : AreNumbered group.book (book_opening count (opening_ref commit)) count seats
   pub slots : reused → IsOpening group.table.sizes (reverse (map (λ seat. seat.view) seats)) commit
 
 -- the seats of a group that no client has, and how many there is room for

@@ -1,4 +1,4 @@
--- What a client is told. Read Clients (what a call leaves: `Acts`, `Looks`, `Stays`, `Reads`) and Calls (`reply_to`:
+-- What a client is told. Read Clients (what a call leaves: `AfterChange`, `AfterLook`) and Calls (`reply_to`:
 -- the right reply to each call; lists of calls); and Running for changes whose mutators the caller runs. Configs,
 -- Queries, Asking, Replies, Watching, Readers and Asked are where these cite them; Counting hands on words of
 -- `reader_claims`. Below it stand `linearized` and `group_history`: read those first.

@@ -20,7 +20,7 @@ ghost use Rattle.change_tries.specs.Places.{place};
 ghost use Rattle.change_tries.specs.Proposing.{AsksNext};
 ghost use Rattle.rebase.specs.Clients.{AfterChange, ClientState, IsSameClient};
 ghost use Rattle.rebase.specs.Inside.Made.{reply_made};
-ghost use Rattle.rebase.specs.Inside.Shown.{IsShown};
+ghost use Rattle.rebase.specs.Inside.Shown.{IsRunShown};
 ghost use Rattle.rebase.specs.Replies.{reply_seen};
 ghost use Rattle.rebase.specs.Running.{BeganAs, EndsCall, Follows, IsAsked, IsUnwritten};
 ghost use Rattle.rebase.specs.Running.{last_called};
@@ -54,7 +54,7 @@ impl<M: Means, S: Slots<M>> Model for Asking<M, S> {
     ghost use Rattle.head_word.specs.contracts.entry.Entry as entry;
     ghost use Rattle.head_word.specs.Books.{drawn};
     ghost use Rattle.change_tries.specs.Proposing.{AsksNext};
-    ghost use Rattle.change_tries.specs.Rooting.{entries_coded};
+    ghost use Rattle.group_history.specs.State.{entries_coded};
     ghost use Rattle.change_tries.specs.Runs.{run_map, run_start};
     ghost use Rattle.change_tries.specs.Tries.{IsAttempt};
     ghost use Rattle.rebase.specs.Running.{UnderWay};
@@ -126,7 +126,7 @@ impl<M: Runs, S: Store<M>> Client<M, S> {
             → TellsProgress M.means S.reused tries before.seat self.seat before.last change progress
             → TellsAsked result (IsAsked M.means S.reused tries before change) (λ client reply.
             EndsCall M.means S.reused tries before client change (map_ok reply_seen reply)) }
-        ensures shown { TellsAsked result (IsShown self change tries progress) (λ client reply. Unit {0}) }
+        ensures shown { TellsAsked result (IsRunShown self change tries progress) (λ client reply. Unit {0}) }
         ensures fresh { TellsAsked result (IsUnwritten M.has) (λ client reply. Unit {0}) }
     {
         let mut client = self;

@@ -66,7 +66,7 @@ impl<M: Means, S: Slots<M>> Model for Client<M, S> {
     ghost use Rattle.std.specs.Prelude.{◌≡◌, true};
     ghost use Rattle.commit_graph.specs.Seats.{is_held};
     ghost use Rattle.rebase.specs.Clients.{ClientState, grouped};
-    ghost use Rattle.rebase.specs.Inside.Keeping.{Keeps};
+    ghost use Rattle.rebase.specs.Inside.Keeping.{KeepsClient};
 
     ghost Value = { ClientState };
 
@@ -79,7 +79,7 @@ impl<M: Means, S: Slots<M>> Model for Client<M, S> {
       last = c.last;
     } };
 
-    ghost invariant = { λ c. Keeps S.reused (arc_value c.group).shared c.seat c.id c.last c.found c.latest
+    ghost invariant = { λ c. KeepsClient S.reused (arc_value c.group).shared c.seat c.id c.last c.found c.latest
         × (S.reused → c.pinned ≡ true → is_held c.seat.view.pin ≡ true) };
 }
 

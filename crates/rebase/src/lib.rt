@@ -6,7 +6,7 @@
 //! where others moved it first, it is made anew at the commit where they left it.
 //!
 //! Each call's clause `answer` is `IsLinearized` of `linearized`: a right reply at one point of the call. What a call
-//! leaves is one word: `Acts` (a change), `Looks`, `Stays` (a query), `Reads` (an open reader). Why a change is refused
+//! leaves is one word: `AfterChange`, `AfterLook`, `AfterQuery`, `AfterRead` (an open reader). Why a change is refused
 //! with Full, Busy or Stamps is `cause`, what it does to slots `frees`.
 //!
 //! Decisions. A group is a handle on an `Arc`, and a client has no lifetime, so programs keep clients in structs and
@@ -18,9 +18,9 @@
 //! A call that may wait tries 1,000 times before it begins anew; in between it has no pin and no taken slot. A watch
 //! may be polled by any client of its group: it keeps the rows told last and what was seen of the book then, so at a
 //! root that it met before, and where all chunks are the same in which its rows lie, a poll reads no row; else it reads
-//! only chunks that the last one didn't meet, and those at which the scan's limit cuts, one on each level. A seat that
-//! comes back needs the room that it left, so `back` takes no memory. A list of calls says of each what `make_call`
-//! says of one (`IsMade`), but that the client rests in between.
+//! only chunks that the last one didn't meet, and those of which it wants rows that the scan's limit cut off. A seat
+//! that comes back needs the room that it left, so `back` takes no memory. A list of calls says of each what
+//! `make_call` says of one (`IsMade`), but that the client rests in between.
 //! A reader that is kept (`Reader`) has its client: its model is the client's, and its type keeps that the pin is held,
 //! so its commit is had without a refusal. A group's moment is the stamp of the commit where its head is: moves go to
 //! ever greater stamps, so two states are told apart by one look each, without a pin.
@@ -42,6 +42,7 @@ mod moments;
 mod queries;
 mod readers;
 mod reading;
+mod rows;
 mod seats;
 mod sitting;
 mod tickets;
@@ -64,8 +65,9 @@ pub use push_body::Identity;
 pub use reader_claims::SlotCounts;
 pub use readers::Reader;
 pub use reading::ReadTx;
+pub use rows::Rows;
 pub use seats::{Seat, Seats};
 pub use tickets::Ticket;
 pub use transactions::{ReadTx as CommitTx, TakesRows};
 pub use uuid::Uuid;
-pub use watching::{Polled, Rows, Watch};
+pub use watching::{Polled, Watch};

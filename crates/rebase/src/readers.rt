@@ -2,8 +2,8 @@
 //!
 //! A `Reader` owns its client, so it has no lifetime and programs keep it in structs, beside others. It reads the
 //! commit where the head was when it was begun; its client's pin is held until it ends, which the type keeps
-//! (`IsKept`), so a reader is never refused for want of a pin. It can't be dropped: who has one ends it, and has the
-//! client again.
+//! (`IsReadingKept`), so a reader is never refused for want of a pin. It can't be dropped: who has one ends it, and
+//! has the client again.
 ghost use Rattle.std.specs.Prelude.{◌≡◌, drop, None, IfOk, IfErr};
 ghost use Rattle.std.specs.Arc.{arc_value};
 ghost use mathlib.Core.List.{IsPrefix};
@@ -44,7 +44,7 @@ impl<M: Means, S: Slots<M>> Model for Reader<M, S> {
     ghost use Rattle.std.specs.Coded.{codes};
     ghost use Rattle.head_word.specs.contracts.entry.Entry as entry;
     ghost use Rattle.rebase.specs.Clients.{ClientState};
-    ghost use Rattle.rebase.specs.Inside.Reading.{IsKept};
+    ghost use Rattle.rebase.specs.Inside.Reading.{IsReadingKept};
 
     ghost Value = { ClientState };
 
@@ -52,7 +52,7 @@ impl<M: Means, S: Slots<M>> Model for Reader<M, S> {
 
     ghost view = { λ r. r.client };
 
-    ghost invariant = { λ r. IsKept S.reused r.client.seat r.at };
+    ghost invariant = { λ r. IsReadingKept S.reused r.client.seat r.at };
 }
 
 impl<M: Means, S: Slots<M>> Client<M, S> {

@@ -4,12 +4,12 @@
 //! chunks in which the rows of its scan lie there (`Cover`). What a stamp spells never changes. So at a commit of the
 //! same root the rows are the same; and where other keys changed the root is another, but the chunks are the same, and
 //! so the rows are. In both cases none is read. Else a poll reads only chunks that the last one didn't meet, and those
-//! at which the scan's limit cuts: the watch keeps which rows are which chunk's (`Spans`). The type keeps that the rows
-//! are those of the root, lie in the chunks and have the spans (`AreRead`), in what was seen of the book when they were
-//! read; of that and what a client has seen one begins the other, and the watch keeps what both have seen.
+//! of which it wants rows that the scan's limit cut off: the watch keeps which rows are which chunk's (`Spans`). The
+//! type keeps that the rows are those of the root, lie in the chunks and have the spans (`AreRead`), in what was seen
+//! of the book when they were read; of that and what a client has seen one begins the other, and the watch keeps what
+//! both have seen.
 ghost use Rattle.std.specs.Option.{option_copied};
 ghost use Rattle.std.specs.Prelude.{◌≡◌, ◌⊎◌, T, Some, None, Ok, true, IfOk, IfErr, IfNone, IfSome, IsSome};
-ghost use Rattle.std.specs.Cmp as laws;
 ghost use mathlib.Core.List.{IsPrefix};
 ghost use Rattle.group_history.specs.Queries.{view_rows};
 ghost use Rattle.group_history.specs.Record.{after};
@@ -22,72 +22,18 @@ ghost use Rattle.transactions.specs.Spans.{AreSpans};
 ghost use Rattle.rebase.specs.Clients.{AfterQuery};
 ghost use Rattle.rebase.specs.Inside.Watching.{CoversView};
 ghost use Rattle.rebase.specs.Readers.{read_by, seen_by};
-ghost use Rattle.rebase.specs.Watching.{Watched, poll_at, poll_reply, same_rows, same_rows-equiv, was_told};
-ghost use Rattle.rebase.specs.Watching.{watch_after};
+ghost use Rattle.rebase.specs.Watching.{Watched, poll_at, poll_reply, was_told, watch_after};
 
 use crate::client::Client;
 use crate::reading::{Point, ReadTx};
+use crate::rows::Rows;
 use chunk_slots::Slots;
 use group_history::{Json, Means, Ref, Refusal, Scan, Text};
 use head_word::Mark;
 use map_chunks::covers::Cover;
 use std::alloc::{AllocError, Global};
 use std::marker::Model;
-use std::sync::Arc;
 use transactions::{Rescanned, Spans};
-
-/// Rows that were answered, in the order of their keys. They are shared: a clone copies none.
-#[derive(Drop)]
-pub struct Rows {
-    shared: Arc<Vec<(Text, Json)>, Global>,
-}
-
-impl Model for Rows {
-    ghost use Rattle.std.specs.Prelude.{List};
-    ghost use Rattle.std.specs.Arc.{arc_value};
-    ghost use Rattle.group_history.specs.Map.{Bytes};
-
-    ghost Value = { List (Bytes × Bytes) };
-
-    ghost view = { λ rows. (arc_value rows.shared).items };
-}
-
-impl Rows {
-    /// The rows, from now on shared; none is copied.
-    pub fn new(alloc: Global, rows: Vec<(Text, Json)>) -> Result<Rows, AllocError>
-        ensures { IfOk result (λ shared. shared ≡ rows.items) }
-    {
-        let shared = Arc::new(alloc, rows)?;
-        Ok(Rows { shared })
-    }
-
-    /// The rows, in the order of their keys.
-    pub fn as_slice(&self) -> &[(Text, Json)]
-        ensures { result.now ≡ self.now }
-    {
-        self.shared.as_slice()
-    }
-}
-
-impl Clone for Rows {
-    ghost is_clone = { λ rows copy. copy ≡ rows };
-
-    fn clone(&self) -> Result<Rows, AllocError> {
-        let shared = Arc::try_clone(&self.shared)?;
-        Ok(Rows { shared })
-    }
-}
-
-/// They are equal where their keys and the compact texts of their values are.
-impl PartialEq for Rows {
-    ghost eq = { same_rows };
-
-    ghost laws = { laws.partial_equiv_from_equiv same_rows-equiv };
-
-    fn eq(&self, other: &Self) -> bool {
-        *self.shared == *other.shared
-    }
-}
 
 /// What a poll tells.
 #[derive(Drop)]
@@ -167,11 +113,11 @@ pub struct Watch<M: Means> {
 impl<M: Means> Model for Watch<M> {
     ghost use Rattle.head_word.specs.Books.{drawn};
     ghost use Rattle.rebase.specs.Watching.{Watched};
-    ghost use Rattle.rebase.specs.Inside.Watching.{AreRead, rows_told};
+    ghost use Rattle.rebase.specs.Inside.Watching.{AreRead, rows_last_told};
 
     ghost Value = { Watched };
 
-    ghost view = { λ w. record { book = w.mark.book; scan = w.scan; last = rows_told w.last } };
+    ghost view = { λ w. record { book = w.mark.book; scan = w.scan; last = rows_last_told w.last } };
 
     ghost invariant = { λ w. AreRead (drawn w.mark.log) w.scan w.last };
 }
@@ -307,7 +253,7 @@ impl<M: Means> Watch<M> {
         }
     }
 
-    // What a poll finds. Chunks that were met when the rows were told are not read, but for those that the limit cuts.
+    // What a poll finds. A chunk that was met when the rows were told is read only for rows that the limit cut off.
     fn read_new<S: Slots<M>>(&self, tx: &ReadTx<'_, M, S>) -> Result<PollFound<M>, Refusal>
         requires { self.now.book ≡ (seen_by tx.now).book }
         ensures some { IfOk result (λ found. IfSome found.others

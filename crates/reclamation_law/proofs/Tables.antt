@@ -13,7 +13,7 @@ use native.Mathlib.Decide.{ℕ_discrete, dec_lt}
 use lib.ListN.{get_elem?}
 use Rattle.atomic_table.proofs.Lists.{at_set, at_last, at_longer, set_here, set_again}
 use Rattle.group_history.specs.Refs.{max_seats}
-use Rattle.head_word.specs.Books.{opening, opening_ref}
+use Rattle.head_word.specs.Books.{book_opening, opening_ref}
 use Rattle.reader_claims.specs.declared.words.SlotState.TheVariants.{Free, Taken, Live}
 use Rattle.reader_claims.specs.declared.view.Sizes.{Sizes}
 use Rattle.reader_claims.specs.declared.view.View.{View}
@@ -207,7 +207,7 @@ module _ (k : Sizes) (some_reader : 0 < k.readers) (few : k.readers ≤ max_seat
   world_of zs done h = record {
     words = h.words;
     views = seats k done;
-    log = opening k.readers (opening_ref 0);
+    log = book_opening k.readers (opening_ref 0);
     reached = zs;
     works = replicate (length (seats k done)) no_work;
   }

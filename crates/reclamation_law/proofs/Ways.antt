@@ -10,7 +10,7 @@ use Rattle.group_history.specs.declared.changes.Change.TheVariants.{Pulled}
 use Rattle.group_history.specs.Cookies.{null_cookie}
 use Rattle.group_history.specs.Refs.{max_seats}
 use Rattle.head_word.specs.declared.entry.Entry.{Entry}
-use Rattle.head_word.specs.Books.{opening, opening_ref}
+use Rattle.head_word.specs.Books.{book_opening, opening_ref}
 use Rattle.reader_claims.specs.declared.words.Pin.TheVariants.{Absent, Stored}
 use Rattle.reader_claims.specs.declared.view.Sizes.{Sizes}
 use Rattle.reader_claims.specs.declared.view.View.{View}
@@ -55,7 +55,7 @@ abbrev pub f0 : ℕ → ℕ
 f0 = after (λ j. 0) 2056 1
 
 abbrev pub book : Sizes → List Entry
-book k = opening k.readers (opening_ref 0)
+book k = book_opening k.readers (opening_ref 0)
 
 abbrev pub only : List ℕ
 only = 0 ∷ []

@@ -18,7 +18,7 @@ use Rattle.group_history.specs.declared.nodes.Node.{Node}
 use Rattle.group_history.specs.declared.nodes.Child.{Child}
 use Rattle.group_history.specs.Refs.{stamp_of, max_seats}
 use Rattle.head_word.specs.declared.entry.Entry.{Entry}
-use Rattle.head_word.specs.Books.{next_stamp, last_move, drafted, moved, opening}
+use Rattle.head_word.specs.Books.{next_stamp, last_move, drafted, moved, book_opening}
 use Rattle.reader_claims.specs.declared.words.Pin.TheVariants.{Absent}
 use Rattle.reader_claims.specs.declared.words.SlotState.TheVariants.{Free, Live}
 use Rattle.reader_claims.specs.declared.view.Sizes.{Sizes}
@@ -170,5 +170,5 @@ pub record Opens (k : Sizes) (s : World) : Type 0 where
   pub works : s.works ≡ replicate (length s.views) no_work
   -- the book opens for the readers' seats with two drafted nodes, and a move to the second, which has the stamp 1
   pub at : Ref
-  pub book : s.log ≡ opening k.readers at
+  pub book : s.log ≡ book_opening k.readers at
   pub stamp : stamp_of at ≡ 1

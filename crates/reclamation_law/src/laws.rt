@@ -24,8 +24,8 @@ pub fn joined_law()
     ensures table { TableLaw }
     // and for every number of seats and all slots the machine can open so.
     ensures opening { OpeningLaw }
-    // A slot that was dropped does come back.
+    // A slot that was dropped can come back.
     ensures turn { TurnLaw }
-    // So does one that was settled in a try that was lost or given up.
+    // So can one that was settled in a try that was lost or given up.
     ensures lost_turn { LostTurnLaw }
 {}

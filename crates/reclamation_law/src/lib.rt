@@ -13,7 +13,7 @@
 //! withdrawn or taken (`joined`). So the head's slots are live (`head`), a seat holds the slots of its loaded commits
 //! (`hold`), and what lies there is what the commit looks for (`stamps`). At the last epoch nothing is retired
 //! (`highest`). The events lead to no table to which the table's own steps don't lead (`table`), the machine can open
-//! (`opening`), and slots that were dropped, or settled in a lost try, do come back (`turn`, `lost_turn`): the law
+//! (`opening`), and slots that were dropped, or settled in a lost try, can come back (`turn`, `lost_turn`): the law
 //! doesn't hold for want of steps.
 //!
 //! Why it holds. Take a reader that holds the pin e and loaded a commit under it. As it did, the commit was the head,

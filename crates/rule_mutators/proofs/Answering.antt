@@ -4,7 +4,7 @@ use Rattle.std.specs.Prelude.{Result}
 use Rattle.rule_mutators.specs.declared.faults.RuleFault.{RuleFault}
 use Rattle.rule_mutators.specs.declared.faults.RuleFault.TheVariants.{NoMemory, NotJson, NotObject, At}
 use Rattle.rule_mutators.specs.Answers.{IsFaultOf}
-use Rattle.rule_mutators.specs.Reading.{◌>>=◌}
+use Rattle.group_history.specs.Answers.{◌>>=◌}
 
 pub refuses_on : {A B : Type 0} (e : RuleFault) (x : Result A RuleFault) (f : A → Result B RuleFault) → IsFaultOf e x
     → IsFaultOf e (x >>= f)

@@ -9,7 +9,8 @@ use Rattle.rule_mutators.specs.declared.faults.RuleFault.{RuleFault}
 use Rattle.rule_mutators.specs.declared.faults.RuleFault.TheVariants.{At}
 use Rattle.rule_mutators.specs.declared.faults.Wrong.TheVariants as wrong
 use Rattle.rule_mutators.specs.Reading.{SaidPart, the_one, the_two, choice_said}
-use Rattle.rule_mutators.specs.Reading.{expression_said, steps_said, item_at, ◌>>=◌}
+use Rattle.group_history.specs.Answers.{◌>>=◌}
+use Rattle.rule_mutators.specs.Reading.{expression_said, steps_said, item_at}
 use Rattle.rule_mutators.specs.Reading.{field_said, need_said, name_said, code_said}
 use Rattle.rule_mutators.specs.Answers.{IsFaultOf}
 use Rattle.rule_mutators.specs.Inside.Parts.{parts_behind, branches_behind}

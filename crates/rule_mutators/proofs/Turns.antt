@@ -11,7 +11,8 @@ use Rattle.group_history.specs.Map.{Bytes}
 use Rattle.rule_mutators.specs.declared.faults.RuleFault.{RuleFault}
 use Rattle.rule_mutators.specs.declared.language.Expr.{Expr}
 use Rattle.rule_mutators.specs.declared.language.RuleStep.{RuleStep}
-use Rattle.rule_mutators.specs.Reading.{all_said, parts_of, fields_said, list_said, named_said, ◌>>=◌}
+use Rattle.group_history.specs.Answers.{◌>>=◌}
+use Rattle.rule_mutators.specs.Reading.{all_said, parts_of, fields_said, list_said, named_said}
 use Rattle.rule_mutators.specs.Reading.{expression_said, step_said, rule_said, item_at, member_at}
 use Rattle.rule_mutators.specs.Rules as rule
 use Rattle.rule_mutators.specs.Views.{expression_of, all_expressions, all_fields, step_of, all_steps, rule_of}

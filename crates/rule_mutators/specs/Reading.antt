@@ -8,6 +8,7 @@ use Rattle.serde_json.specs.Data.{Data, null, boolean, number, string, array, ob
 use Rattle.serde_json.specs.Data.{Members, no_members, member}
 use Rattle.serde_json.specs.Find.{as_str, as_number, as_u64}
 use Rattle.serde_json.specs.Written.{has_float}
+use Rattle.group_history.specs.Answers.{◌>>=◌}
 use Rattle.group_history.specs.Cookies.{value_read}
 use Rattle.group_history.specs.Json.{reading}
 use Rattle.group_history.specs.Map.{Bytes, same_text}
@@ -65,11 +66,6 @@ unfoldable pub item_at : Bytes → ℕ → Bytes
 item_at place n = place ++ 47 ∷ decimal n
 
 -- ---- what may be a fault
-
-infixl 10 ◌>>=◌
-abbrev pub ◌>>=◌ : {A B : Type 0} → Result A RuleFault → (A → Result B RuleFault) → Result B RuleFault
-(Ok x) >>= f = f x
-(Err e) >>= f = Err e
 
 -- a thing, or a fault where there is none
 abbrev pub or_fault : {A : Type 0} → Bytes → Wrong → Option A → Result A RuleFault

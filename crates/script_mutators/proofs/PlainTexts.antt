@@ -25,7 +25,7 @@ use Rattle.group_history.specs.Map.{Bytes}
 use Rattle.group_history.specs.Meaning.{value_of}
 use Rattle.group_history.proofs.Readings.{json_text-compact}
 use Rattle.script_mutators.specs.Mutators.{number_of}
-use Rattle.script_mutators.specs.Inside.Arguments.{whole}
+use Rattle.script_mutators.specs.Inside.Arguments.{integer}
 
 -- the JSON that tokens are
 abbrev json_at : List Token → Option json.Json
@@ -63,19 +63,19 @@ value_of-written text d utf8 w = value_of-compact text d utf8 w.same w.numbers (
 
 -- ---- a whole number
 
-compact_text-whole : (z : ℤ) → compact_text (whole z) ≡ signed_decimal z
+compact_text-whole : (z : ℤ) → compact_text (integer z) ≡ signed_decimal z
 compact_text-whole (pos n) = refl
 compact_text-whole (negsuc n) = refl
 
-HasNumbers-whole : (z : ℤ) → mag z < 2 ^ 63 → HasNumbers (outline (whole z))
+HasNumbers-whole : (z : ℤ) → mag z < 2 ^ 63 → HasNumbers (outline (integer z))
 HasNumbers-whole (pos n) h = IsNumber-decimal n (omega arith)
 HasNumbers-whole (negsuc n) h = IsNumber-signed_decimal (negsuc n) h
 
-back-whole : (z : ℤ) → mag z < 2 ^ 63 → of_json (outline (whole z)) ≡ Some (whole z)
+back-whole : (z : ℤ) → mag z < 2 ^ 63 → of_json (outline (integer z)) ≡ Some (integer z)
 back-whole (pos n) h = ap (option_map number) (number_of-decimal n (omega arith))
 back-whole (negsuc n) h = ap (option_map number) (number_of-negative n (omega arith))
 
-pub written-whole : (text : Bytes) (z : ℤ) → text ≡ signed_decimal z → mag z < 10 ^ 18 → IsWritten text (whole z)
+pub written-whole : (text : Bytes) (z : ℤ) → text ≡ signed_decimal z → mag z < 10 ^ 18 → IsWritten text (integer z)
 written-whole text z same low = record {
   same = same ∙ sym (compact_text-whole z);
   numbers = HasNumbers-whole z (omega arith);
@@ -88,14 +88,14 @@ pub json_text-whole : (text : Bytes) (z : ℤ) → IsUtf8 text → text ≡ sign
     → json_text text ≡ Ok text
 json_text-whole text z utf8 same fits =
     let to = same ∙ sym (compact_text-whole z) in
-    let is = ap read to ∙ read-compact_text (whole z) (HasNumbers-whole z fits) (omega arith) ∙ back-whole z fits in
-    json_text-compact (whole z) text utf8 is to (omega arith) (is_no_float z)
+    let is = ap read to ∙ read-compact_text (integer z) (HasNumbers-whole z fits) (omega arith) ∙ back-whole z fits in
+    json_text-compact (integer z) text utf8 is to (omega arith) (is_no_float z)
   where
-    is_no_float : (z : ℤ) → has_float (whole z) ≡ false
+    is_no_float : (z : ℤ) → has_float (integer z) ≡ false
     is_no_float (pos n) = refl
     is_no_float (negsuc n) = refl
 
-number_of-whole : (z : ℤ) → mag z < 2 ^ 63 → number_of (whole z) ≡ Some z
+number_of-whole : (z : ℤ) → mag z < 2 ^ 63 → number_of (integer z) ≡ Some z
 number_of-whole (pos n) h = rw (lt-ltb n (2 ^ 63) h) refl
 number_of-whole (negsuc n) h = refl
 
@@ -103,7 +103,7 @@ number_of-whole (negsuc n) h = refl
 pub number_at-plain : (text : Bytes) (z : ℤ) → IsUtf8 text → text ≡ signed_decimal z → mag z < 10 ^ 18
     → Some z ≡ option_and_then number_of (value_of text)
 number_at-plain text z utf8 same low =
-    let is = value_of-written text (whole z) utf8 (written-whole text z same low) in
+    let is = value_of-written text (integer z) utf8 (written-whole text z same low) in
     sym (ap (option_and_then number_of) is ∙ number_of-whole z (omega arith))
 
 -- ---- a text without escapes

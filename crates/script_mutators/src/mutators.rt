@@ -132,7 +132,7 @@ fn set<V: WriteView>(alloc: Global, args: &Args<'_>, view: &mut V) -> Result<Ran
 }
 
 /// Raises the number at the key, which has to be there.
-#[tactic(auto, unfolding(crate::specs::Mutators::incr_means, crate::specs::Inside::Mutators::raised))]
+#[tactic(auto, unfolding(crate::specs::Mutators::incr_means, crate::specs::Inside::Mutators::put_raised))]
 fn incr<V: WriteView>(alloc: Global, args: &Args<'_>, view: &mut V) -> Result<Ran, Stop>
     ensures ran { IfOk result (λ ran. RunsAs (spec.incr_means (args_value args.now) (V.contents view.old)) ran
         (V.contents view.new)) }
@@ -145,9 +145,9 @@ fn incr<V: WriteView>(alloc: Global, args: &Args<'_>, view: &mut V) -> Result<Ra
 }
 
 /// What `incr` makes of what is there: the number, raised.
-#[tactic(auto, unfolding(crate::specs::Inside::Mutators::raised))]
+#[tactic(auto, unfolding(crate::specs::Inside::Mutators::put_raised))]
 fn raised(alloc: Global, there: Option<Json>, by: i64) -> Result<Update, Stop>
-    ensures ok { IfOk result (λ u. u ≡ inside.raised there by) }
+    ensures ok { IfOk result (λ u. u ≡ inside.put_raised there by) }
     ensures stopped { IfErr result (λ stop. stop ≡ NoMemory) }
 {
     let Some(there) = there else {
@@ -212,7 +212,7 @@ fn reason_text(why: Reason) -> &'static str
 }
 
 /// Lets a text follow the text at a key, the empty one where the key isn't there.
-#[tactic(auto, unfolding(crate::specs::Mutators::appended, crate::specs::Inside::Mutators::followed))]
+#[tactic(auto, unfolding(crate::specs::Mutators::appended, crate::specs::Inside::Mutators::put_followed))]
 fn lengthen<V: WriteView>(alloc: Global, key: &str, added: &str, view: &mut V) -> Result<Ran, Stop>
     ensures ran { IfOk result (λ ran. RunsAs (spec.appended key.now added.now (V.contents view.old)) ran
         (V.contents view.new)) }
@@ -222,9 +222,9 @@ fn lengthen<V: WriteView>(alloc: Global, key: &str, added: &str, view: &mut V) -
 }
 
 /// What `append` and `tag` make of what is there: the text, with another behind it.
-#[tactic(auto, unfolding(crate::specs::Mutators::followed, crate::specs::Inside::Mutators::followed))]
+#[tactic(auto, unfolding(crate::specs::Mutators::followed, crate::specs::Inside::Mutators::put_followed))]
 fn followed(alloc: Global, there: Option<Json>, added: &str) -> Result<Update, Stop>
-    ensures ok { IfOk result (λ u. u ≡ inside.followed there added.now) }
+    ensures ok { IfOk result (λ u. u ≡ inside.put_followed there added.now) }
     ensures stopped { IfErr result (λ stop. stop ≡ NoMemory) }
 {
     let Some(mut text) = text_there(alloc, there)? else {

@@ -24,7 +24,7 @@ use Rattle.script_parser.specs.Reading.{TakesAs, bytes_said_with, with_asked}
 use Rattle.script_parser.specs.Scripts.{LearnsWithin, client_said, line_said}
 use Rattle.script_parser.specs.Inside.Faults.{Asks}
 use Rattle.script_parser.specs.Inside.Parsing.{context_of}
-use Rattle.script_parser.specs.Inside.Reading.{IsBeside, noted, settled}
+use Rattle.script_parser.specs.Inside.Reading.{IsBeside, noted_phase, kept_after}
 use Rattle.script_parser.proofs.CheckedLemmas.{LearnWithin, Sound, said_with-sound}
 
 -- IN RANGE
@@ -73,11 +73,11 @@ range_asked old new n l a is range right =
     range_beside a new (subst (λ (r : Result Context ScriptFault). IfOk r Sound) right
     (said_with-sound old n l (sound_bare old is range)))
 
-range_noted : (ps : List (List Lines)) (c : Context) → IsSaidInRange c → IsSaidInRange (noted ps c)
+range_noted : (ps : List (List Lines)) (c : Context) → IsSaidInRange c → IsSaidInRange (noted_phase ps c)
 range_noted [] c range = range
 range_noted (p ∷ ps) c range = range
 
-pub range_settled : (a : LineKind) (c : Context) → IsSaidInRange c → IsSaidInRange (settled a c)
+pub range_settled : (a : LineKind) (c : Context) → IsSaidInRange c → IsSaidInRange (kept_after a c)
 range_settled asked.Nothing c range = range
 range_settled asked.Phase c range = range_noted c.phases c range
 range_settled (asked.Command client l) c range = range
@@ -116,7 +116,7 @@ bare_line n client l ps = bare_changed n _ _ ps
 -- A phase is noted where it is the first.
 took_phase : (right : Result Context ScriptFault) (n : ℕ) (c : Context) (ps : List (List Lines)) → c.phases ≡ ps
     → without_lines c ≡ c → right ≡ Ok (with_asked asked.Phase c)
-    → TakesAs right n c (Ok asked.Phase) (noted ps c)
+    → TakesAs right n c (Ok asked.Phase) (noted_phase ps c)
 took_phase right n c [] none is right_is = (
   with_asked asked.Phase c,
   right_is,
@@ -136,11 +136,11 @@ took_phase right n c (p ∷ ps) some is right_is =
 
 -- what is asked is taken
 pub took : (right : Result Context ScriptFault) (n : ℕ) (old new : Context) (a : LineKind) → without_lines old ≡ old
-    → right ≡ Ok (with_asked a new) → IsBeside n old a new → TakesAs right n old (Ok a) (settled a new)
+    → right ≡ Ok (with_asked a new) → IsBeside n old a new → TakesAs right n old (Ok a) (kept_after a new)
 took right n old new asked.Nothing is right_is beside =
     (new, right_is, beside.0, sym (bare_beside n old new asked.Nothing is beside))
 took right n old new asked.Phase is right_is beside =
-    subst (λ c. TakesAs right n old (Ok asked.Phase) (settled asked.Phase c)) (sym beside)
+    subst (λ c. TakesAs right n old (Ok asked.Phase) (kept_after asked.Phase c)) (sym beside)
     (took_phase right n old old.phases refl is (right_is ∙ ap (λ c. Ok (with_asked asked.Phase c)) beside))
 took right n old new (asked.Command client l) is right_is beside =
     let kept = bare_beside n old new (asked.Command client l) is beside in (
@@ -152,13 +152,13 @@ took right n old new (asked.Command client l) is right_is beside =
     )
 
 bare_noted : (ps : List (List Lines)) (c : Context) → c.phases ≡ ps → without_lines c ≡ c
-    → without_lines (noted ps c) ≡ noted ps c
+    → without_lines (noted_phase ps c) ≡ noted_phase ps c
 bare_noted [] c none is = ap (λ ps. record c { phases = ps })
     (ap (λ ps. bare (length c.clients) (ps ++ new_phase (length c.clients) ∷ [])) none
     ∙ sym (ap (λ ps. ps ++ new_phase (length c.clients) ∷ []) none))
 bare_noted (p ∷ ps) c some is = is
 
-pub bare_settled : (a : LineKind) (c : Context) → without_lines c ≡ c → without_lines (settled a c) ≡ settled a c
+pub bare_settled : (a : LineKind) (c : Context) → without_lines c ≡ c → without_lines (kept_after a c) ≡ kept_after a c
 bare_settled asked.Nothing c is = is
 bare_settled asked.Phase c is = bare_noted c.phases c refl is
 bare_settled (asked.Command client l) c is = is

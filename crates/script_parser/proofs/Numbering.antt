@@ -15,8 +15,8 @@ use Rattle.std.specs.declared.cmp.Ordering.TheVariants.{Less, Equal, Greater}
 use Rattle.std.specs.Str.{bytes_eq}
 use Rattle.std.specs.String.{string_bytes, string_cmp}
 use Rattle.group_history.specs.Map.{Bytes, same_text}
-use Rattle.script_parser.specs.Names.{number_among, with_name, names_of, number_of, noted, number_made}
-use Rattle.script_parser.specs.Inside.Names.{name_at, names_in, AreBelow, IsNumbered}
+use Rattle.script_parser.specs.Names.{number_among, with_name, names_of, name_number, noted, number_made}
+use Rattle.script_parser.specs.Inside.Names.{name_at, names_in, AreNumbersBelow, IsNumbering}
 use Rattle.script_parser.proofs.Changes.{changed_at-past, get_or-past}
 
 -- PLACES
@@ -60,8 +60,8 @@ number_among-more names name q none =
 
 -- a client past the last has no names
 pub number_of-past : (client : ℕ) (name : Bytes) (made : List (List Bytes)) → length made ≤ client
-    → number_of client name made ≡ None
-unfolding number_of number_among
+    → name_number client name made ≡ None
+unfolding name_number number_among
 number_of-past client name made past = ap (number_among name) (get_or-past made client [] past)
 
 pub number_made-past : (client : ℕ) (name : Bytes) (made : List (List Bytes)) → length made ≤ client
@@ -113,7 +113,7 @@ module _ {A : Type 0} where
       ] none
 
   name_at-new : (es : List (String A × ℕ)) (k : String A) (n : ℕ) → lookup (is_at (string_cmp k)) es ≡ None
-      → AreBelow n es → name_at (insert_entry string_cmp es k n) n ≡ string_bytes k
+      → AreNumbersBelow n es → name_at (insert_entry string_cmp es k n) n ≡ string_bytes k
   name_at-new [] k n none below = rw (eq-eqb n n refl)
   name_at-new (e ∷ es) k n none below =
       let own : (n == n) ≡ true = eq-eqb n n refl in
@@ -126,17 +126,17 @@ module _ {A : Type 0} where
         | Greater ↦ λ rest. rw apart (name_at-new es k n rest below.1)
       ] none
 
-  below-later : (n : ℕ) (es : List (String A × ℕ)) → AreBelow n es → AreBelow (n + 1) es
+  below-later : (n : ℕ) (es : List (String A × ℕ)) → AreNumbersBelow n es → AreNumbersBelow (n + 1) es
   below-later n [] below = tt
   below-later n (e ∷ es) below = (omega (arith, below.0), below-later n es below.1)
 
-  below-insert : (es : List (String A × ℕ)) (k : String A) (n : ℕ) → AreBelow n es
-      → AreBelow (n + 1) (insert_entry string_cmp es k n)
+  below-insert : (es : List (String A × ℕ)) (k : String A) (n : ℕ) → AreNumbersBelow n es
+      → AreNumbersBelow (n + 1) (insert_entry string_cmp es k n)
   below-insert [] k n below = (omega arith, tt)
   below-insert (e ∷ es) k n below =
       let here : e.1 < n + 1 = omega (arith, below.0) in
       let rest = below-later n es below.1 in
-      elim (string_cmp k e.0) as (λ o. AreBelow (n + 1)
+      elim (string_cmp k e.0) as (λ o. AreNumbersBelow (n + 1)
       (match_ordering o ((k, n) ∷ e ∷ es) ((e.0, n) ∷ es) (e ∷ insert_entry string_cmp es k n))) [
         | Less ↦ (omega arith, (here, rest))
         | Equal ↦ (omega arith, rest)
@@ -144,7 +144,7 @@ module _ {A : Type 0} where
       ]
 
   names_in-insert : (es : List (String A × ℕ)) (k : String A) → lookup (is_at (string_cmp k)) es ≡ None
-      → AreBelow (length es) es
+      → AreNumbersBelow (length es) es
       → names_in (insert_entry string_cmp es k (length es)) ≡ names_in es ++ string_bytes k ∷ []
   names_in-insert es k none below =
       let n = length es in
@@ -159,10 +159,10 @@ module _ {A : Type 0} where
   length-names_in es = length-map-range_with_len (name_at es) 0 (length es)
 
   -- no names
-  pub IsNumbered-none : (tree : BTreeMap (String A) ℕ) → tree.entries ≡ [] → IsNumbered tree
+  pub IsNumbering-none : (tree : BTreeMap (String A) ℕ) → tree.entries ≡ [] → IsNumbering tree
   unfolding number_among
-  IsNumbered-none tree none = record {
-    below = subst (λ es. AreBelow (length es) es) (sym none) tt;
+  IsNumbering-none tree none = record {
+    below = subst (λ es. AreNumbersBelow (length es) es) (sym none) tt;
     found = λ name. subst (λ (es : List (String A × ℕ)).
         lookup (is_at (λ k. slice_cmp nat_cmp name (string_bytes k))) es
         ≡ position (λ n. same_text n name) (names_in es)) (sym none) refl;
@@ -187,26 +187,26 @@ module _ {A : Type 0} where
     found = btree_map_updates_text (string_bytes k) old new (Some n) updates;
   }
 
-  none_at : {old new : BTreeMap (String A) ℕ} {k : String A} {n : ℕ} → IsNumbered old → Adds old new k n
+  none_at : {old new : BTreeMap (String A) ℕ} {k : String A} {n : ℕ} → IsNumbering old → Adds old new k n
       → lookup (is_at (string_cmp k)) old.entries ≡ None
   none_at {k = k} numbered adds = numbered.found (string_bytes k) ∙ adds.is_new
 
-  pub names_in-add : {old new : BTreeMap (String A) ℕ} {k : String A} {n : ℕ} → IsNumbered old → Adds old new k n
+  pub names_in-add : {old new : BTreeMap (String A) ℕ} {k : String A} {n : ℕ} → IsNumbering old → Adds old new k n
       → names_in new.entries ≡ names_in old.entries ++ string_bytes k ∷ []
   names_in-add {old = old} {k = k} numbered adds =
       ap names_in (adds.entries ∙ ap (insert_entry string_cmp old.entries k) adds.next)
       ∙ names_in-insert old.entries k (none_at numbered adds) numbered.below
 
-  pub IsNumbered-add : {old new : BTreeMap (String A) ℕ} {k : String A} {n : ℕ} → IsNumbered old → Adds old new k n
-      → IsNumbered new
-  IsNumbered-add {old = old} {new = new} {k = k} numbered adds =
+  pub IsNumbering-add : {old new : BTreeMap (String A) ℕ} {k : String A} {n : ℕ} → IsNumbering old → Adds old new k n
+      → IsNumbering new
+  IsNumbering-add {old = old} {new = new} {k = k} numbered adds =
       let es = old.entries in
       let n = length es in
       let none = none_at numbered adds in
       let entries = adds.entries ∙ ap (insert_entry string_cmp es k) adds.next in
       record {
-        below = subst (λ fs. AreBelow (length fs) fs) (sym entries)
-            (subst (λ m. AreBelow m (insert_entry string_cmp es k n)) (sym (length-insert es k n none))
+        below = subst (λ fs. AreNumbersBelow (length fs) fs) (sym entries)
+            (subst (λ m. AreNumbersBelow m (insert_entry string_cmp es k n)) (sym (length-insert es k n none))
             (below-insert es k n numbered.below));
         found = λ q. adds.found q
             ∙ ap (λ m. cond (bytes_eq (string_bytes k) q) (Some m) (get_by_text old q))

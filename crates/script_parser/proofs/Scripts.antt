@@ -17,7 +17,7 @@ use Rattle.script_parser.specs.declared.faults.ScriptFault.TheVariants as text
 use Rattle.script_parser.specs.Context.{Context, nothing_said}
 use Rattle.script_parser.specs.Faults.{said_in, said_after, said_with, Checks, script_said, first_fault, lines_of}
 use Rattle.script_parser.specs.Faults.{line_of_bad_byte}
-use Rattle.script_parser.specs.Inside.Faults.{fault_at, Follows}
+use Rattle.script_parser.specs.Inside.Faults.{fault_at, AgreesWith}
 
 -- The lines so far, of which there are n, have no fault, and say this: what a script says that begins with them is
 -- what the lines after them say too.
@@ -65,7 +65,7 @@ Said-all n c lines said = ap (said_in 1 nothing_said) (sym (append-nil lines)) �
 -- the fault of a line is the script's
 pub Checks-fault : (X Y : Type 0) (n : ℕ) (first : Option (ℕ × ScriptFault)) (right : Result Context ScriptFault)
     (c : Context) (e : LineFault) →
-    Follows {X = Y} right c (Err e) → ((f : ScriptFault) → right ≡ Err f → first ≡ Some (n, f))
+    AgreesWith {X = Y} right c (Err e) → ((f : ScriptFault) → right ≡ Err f → first ≡ Some (n, f))
     → Checks {X = X} first (Err (fault_at n e))
 Checks-fault X Y n first right c (line.Script f) follows is = is f follows
 Checks-fault X Y n first right c line.NoMemory follows is = tt

@@ -11,7 +11,7 @@ use Rattle.script_parser.specs.declared.script.Command.{Command}
 use Rattle.script_parser.specs.declared.script.Command.TheVariants as command
 use Rattle.script_parser.specs.declared.script.Query.TheVariants as query
 use Rattle.script_parser.specs.Context.{Context, Lines, place_of, meets}
-use Rattle.script_parser.specs.Names.{changed_at, number_of, noted, number_made}
+use Rattle.script_parser.specs.Names.{changed_at, name_number, noted, number_made}
 use Rattle.script_parser.specs.Words.{word, more, text, is_word, begins_with_word, is_ticket_name, is_client_name}
 use Rattle.script_parser.specs.Words.{is_number, is_start, is_limit, is_json, json_said, prefix_said, start_said}
 use Rattle.script_parser.specs.Words.{limit_said}
@@ -80,7 +80,7 @@ begin_line c client rest =
 unfoldable pub end_line : Context → ℕ → Option Bytes → CommandSaid
 end_line c client rest =
     let ticket = word (text rest) in
-    let number = number_of client ticket c.tickets in
+    let number = name_number client ticket c.tickets in
     meets ((is_some rest, fault.BadWords) ∷ (is_ticket_name ticket, fault.BadWords)
     ∷ (is_some (more (text rest)), fault.BadWords)
     ∷ (is_some number, fault.UnknownName)
@@ -90,7 +90,7 @@ end_line c client rest =
 -- `W`: the number of a watch that an earlier line of the client made
 unfoldable pub watch_word : Context → ℕ → Option Bytes → Result ℕ ScriptFault
 watch_word c client rest =
-    let number = number_of client (text rest) c.watches in
+    let number = name_number client (text rest) c.watches in
     meets ((is_some rest, fault.BadWords) ∷ (is_ticket_name (text rest), fault.BadWords)
     ∷ (is_some number, fault.UnknownName) ∷ [])
     (unwrap_or number 0)

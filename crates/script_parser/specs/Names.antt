@@ -23,8 +23,8 @@ abbrev pub names_of : ℕ → List (List Bytes) → List Bytes
 names_of client made = get_or made client []
 
 -- the number of a name: its place among those of its client, counted from 0; none where no line of the client made it
-unfoldable pub number_of : ℕ → Bytes → List (List Bytes) → Option ℕ
-number_of client name made = number_among name (names_of client made)
+unfoldable pub name_number : ℕ → Bytes → List (List Bytes) → Option ℕ
+name_number client name made = number_among name (names_of client made)
 
 -- the names, once a line of the client made this one
 unfoldable pub noted : ℕ → Bytes → List (List Bytes) → List (List Bytes)
@@ -32,4 +32,4 @@ noted client name made = changed_at client (with_name name) made
 
 -- the number of the name that the line made: its old one, or the next
 unfoldable pub number_made : ℕ → Bytes → List (List Bytes) → ℕ
-number_made client name made = unwrap_or (number_of client name made) (length (names_of client made))
+number_made client name made = unwrap_or (name_number client name made) (length (names_of client made))

@@ -14,7 +14,7 @@ use std::alloc::AllocError;
 impl Parser {
     ghost use Rattle.script_parser.specs.Commands.{command_line, command_of, named_command};
     ghost use Rattle.script_parser.specs.Commands.{begin_line, end_line, watch_line, watched_line, watch_word};
-    ghost use Rattle.script_parser.specs.Inside.Faults.{Asks, Tells};
+    ghost use Rattle.script_parser.specs.Inside.Faults.{Asks, TellsCommand};
     ghost use Rattle.script_parser.specs.Names.{noted, number_made};
 
     #[tactic(auto, unfolding(crate::specs::Commands::command_line, crate::specs::Commands::command_at))]
@@ -37,7 +37,7 @@ impl Parser {
 
     #[tactic(auto, unfolding(crate::specs::Commands::command_of))]
     fn command_of(&mut self, client: usize, rest: Option<&str>) -> Result<Command, LineFault>
-        ensures { Tells (command_of (context_of self.old) client (option_copied rest.entry))
+        ensures { TellsCommand (command_of (context_of self.old) client (option_copied rest.entry))
             (context_of self.old) (context_of self.new) result }
     {
         let Some(rest) = rest else {
@@ -54,7 +54,7 @@ impl Parser {
         name: &str,
         rest: Option<&str>,
     ) -> Result<Command, LineFault>
-        ensures { Tells (named_command (context_of self.old) client name.now (option_copied rest.entry))
+        ensures { TellsCommand (named_command (context_of self.old) client name.now (option_copied rest.entry))
             (context_of self.old) (context_of self.new) result }
     {
         if name == "begin" {
@@ -71,7 +71,7 @@ impl Parser {
 
     #[tactic(auto, unfolding(crate::specs::Commands::begin_line))]
     fn begin(&mut self, client: usize, rest: Option<&str>) -> Result<Command, LineFault>
-        ensures { Tells (begin_line (context_of self.old) client (option_copied rest.entry))
+        ensures { TellsCommand (begin_line (context_of self.old) client (option_copied rest.entry))
             (context_of self.old) (context_of self.new) result }
     {
         let name = self::rest(rest)?;
@@ -94,7 +94,7 @@ impl Parser {
 
     #[tactic(auto, unfolding(crate::specs::Commands::end_line))]
     fn end(&self, client: usize, rest: Option<&str>) -> Result<Command, LineFault>
-        ensures { Tells (end_line (context_of self.now) client (option_copied rest.entry))
+        ensures { TellsCommand (end_line (context_of self.now) client (option_copied rest.entry))
             (context_of self.now) (context_of self.now) result }
     {
         let (name, body) = first_word(self::rest(rest)?);
@@ -110,7 +110,7 @@ impl Parser {
 
     #[tactic(auto, unfolding(crate::specs::Commands::watch_line))]
     fn watch(&mut self, client: usize, rest: Option<&str>) -> Result<Command, LineFault>
-        ensures { Tells (watch_line (context_of self.old) client (option_copied rest.entry))
+        ensures { TellsCommand (watch_line (context_of self.old) client (option_copied rest.entry))
             (context_of self.old) (context_of self.new) result }
     {
         let (name, rest) = first_word(self::rest(rest)?);
@@ -136,7 +136,7 @@ impl Parser {
     /// What is done with a watch that an earlier line made; or another command.
     #[tactic(auto, unfolding(crate::specs::Commands::watched_line))]
     fn watched(&self, client: usize, name: &str, rest: Option<&str>) -> Result<Command, LineFault>
-        ensures { Tells (watched_line (context_of self.now) client name.now (option_copied rest.entry))
+        ensures { TellsCommand (watched_line (context_of self.now) client name.now (option_copied rest.entry))
             (context_of self.now) (context_of self.now) result }
     {
         if name == "poll" {

@@ -17,11 +17,11 @@ impl Parser {
     ghost use Rattle.script_parser.specs.Commands.{get_line, has_line, scan_line, mutate_line, learn_line, bare_line};
     ghost use Rattle.script_parser.specs.Commands.{look_line, sent_line, push_line, pulled_line, pulled_command};
     ghost use Rattle.script_parser.specs.Commands.{pulled_get, pulled_scan};
-    ghost use Rattle.script_parser.specs.Inside.Faults.{Tells};
+    ghost use Rattle.script_parser.specs.Inside.Faults.{TellsCommand};
 
     #[tactic(auto, unfolding(crate::specs::Commands::look_line))]
     pub(crate) fn look(&self, name: &str, rest: Option<&str>) -> Result<Command, LineFault>
-        ensures { Tells (look_line (context_of self.now) name.now (option_copied rest.entry))
+        ensures { TellsCommand (look_line (context_of self.now) name.now (option_copied rest.entry))
             (context_of self.now) (context_of self.now) result }
     {
         if name == "get" {
@@ -45,7 +45,7 @@ impl Parser {
     /// What the server sent, and what it is to be sent; or a command that takes no words.
     #[tactic(auto, unfolding(crate::specs::Commands::sent_line))]
     fn sent(&self, name: &str, rest: Option<&str>) -> Result<Command, LineFault>
-        ensures { Tells (sent_line (context_of self.now) name.now (option_copied rest.entry))
+        ensures { TellsCommand (sent_line (context_of self.now) name.now (option_copied rest.entry))
             (context_of self.now) (context_of self.now) result }
     {
         if name == "push" {
@@ -59,7 +59,7 @@ impl Parser {
 
     #[tactic(auto, unfolding(crate::specs::Commands::get_line))]
     fn get(&self, rest: Option<&str>) -> Result<Command, LineFault>
-        ensures { Tells (get_line (context_of self.now) (option_copied rest.entry))
+        ensures { TellsCommand (get_line (context_of self.now) (option_copied rest.entry))
             (context_of self.now) (context_of self.now) result }
     {
         let key = Text::new(self.alloc, self::rest(rest)?)?;
@@ -68,7 +68,7 @@ impl Parser {
 
     #[tactic(auto, unfolding(crate::specs::Commands::has_line))]
     fn has(&self, rest: Option<&str>) -> Result<Command, LineFault>
-        ensures { Tells (has_line (context_of self.now) (option_copied rest.entry))
+        ensures { TellsCommand (has_line (context_of self.now) (option_copied rest.entry))
             (context_of self.now) (context_of self.now) result }
     {
         let key = Text::new(self.alloc, self::rest(rest)?)?;
@@ -77,7 +77,7 @@ impl Parser {
 
     #[tactic(auto, unfolding(crate::specs::Commands::scan_line))]
     fn scan(&self, rest: Option<&str>) -> Result<Command, LineFault>
-        ensures { Tells (scan_line (context_of self.now) (option_copied rest.entry))
+        ensures { TellsCommand (scan_line (context_of self.now) (option_copied rest.entry))
             (context_of self.now) (context_of self.now) result }
     {
         let scan = scan_words(self.alloc, rest)?;
@@ -85,7 +85,7 @@ impl Parser {
     }
 
     fn push(&self, rest: Option<&str>) -> Result<Command, LineFault>
-        ensures { Tells (push_line (context_of self.now) (option_copied rest.entry))
+        ensures { TellsCommand (push_line (context_of self.now) (option_copied rest.entry))
             (context_of self.now) (context_of self.now) result }
     {
         let Some(rest) = rest else {
@@ -96,7 +96,7 @@ impl Parser {
 
     #[tactic(auto, unfolding(crate::specs::Commands::pulled_line))]
     fn pulled(&self, rest: Option<&str>) -> Result<Command, LineFault>
-        ensures { Tells (pulled_line (context_of self.now) (option_copied rest.entry))
+        ensures { TellsCommand (pulled_line (context_of self.now) (option_copied rest.entry))
             (context_of self.now) (context_of self.now) result }
     {
         let Some(rest) = rest else {
@@ -108,7 +108,7 @@ impl Parser {
 
     #[tactic(auto, unfolding(crate::specs::Commands::pulled_command))]
     fn pulled_command(&self, name: &str, rest: Option<&str>) -> Result<Command, LineFault>
-        ensures { Tells (pulled_command (context_of self.now) name.now (option_copied rest.entry))
+        ensures { TellsCommand (pulled_command (context_of self.now) name.now (option_copied rest.entry))
             (context_of self.now) (context_of self.now) result }
     {
         if name == "get" {
@@ -122,7 +122,7 @@ impl Parser {
 
     #[tactic(auto, unfolding(crate::specs::Commands::pulled_get))]
     fn pulled_get(&self, rest: Option<&str>) -> Result<Command, LineFault>
-        ensures { Tells (pulled_get (context_of self.now) (option_copied rest.entry))
+        ensures { TellsCommand (pulled_get (context_of self.now) (option_copied rest.entry))
             (context_of self.now) (context_of self.now) result }
     {
         let key = Text::new(self.alloc, self::rest(rest)?)?;
@@ -131,7 +131,7 @@ impl Parser {
 
     #[tactic(auto, unfolding(crate::specs::Commands::pulled_scan))]
     fn pulled_scan(&self, rest: Option<&str>) -> Result<Command, LineFault>
-        ensures { Tells (pulled_scan (context_of self.now) (option_copied rest.entry))
+        ensures { TellsCommand (pulled_scan (context_of self.now) (option_copied rest.entry))
             (context_of self.now) (context_of self.now) result }
     {
         let scan = scan_words(self.alloc, rest)?;
@@ -140,7 +140,7 @@ impl Parser {
 
     #[tactic(auto, unfolding(crate::specs::Commands::mutate_line))]
     fn mutate(&self, rest: Option<&str>) -> Result<Command, LineFault>
-        ensures { Tells (mutate_line (context_of self.now) (option_copied rest.entry))
+        ensures { TellsCommand (mutate_line (context_of self.now) (option_copied rest.entry))
             (context_of self.now) (context_of self.now) result }
     {
         let (time, rest) = word_of(rest)?;
@@ -158,7 +158,7 @@ impl Parser {
 
     #[tactic(auto, unfolding(crate::specs::Commands::learn_line))]
     fn learn(&self, rest: Option<&str>) -> Result<Command, LineFault>
-        ensures { Tells (learn_line (context_of self.now) (option_copied rest.entry))
+        ensures { TellsCommand (learn_line (context_of self.now) (option_copied rest.entry))
             (context_of self.now) (context_of self.now) result }
     {
         let name = self::rest(rest)?;
@@ -173,7 +173,7 @@ impl Parser {
 
     #[tactic(auto, unfolding(crate::specs::Commands::bare_line))]
     fn bare(&self, name: &str, rest: Option<&str>) -> Result<Command, LineFault>
-        ensures { Tells (bare_line (context_of self.now) name.now (option_copied rest.entry))
+        ensures { TellsCommand (bare_line (context_of self.now) name.now (option_copied rest.entry))
             (context_of self.now) (context_of self.now) result }
     {
         let Some(command) = bare_command(name) else {

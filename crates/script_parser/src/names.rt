@@ -3,10 +3,10 @@
 //! Names are numbered client by client: 0 is the first that a line of the client made, 1 the next other one. Each is
 //! kept once, in a tree that leads from a name to its number: so a name is found without a walk over all, and a line of
 //! an old name takes no memory. What is found for a name is its place among those of its client, which the model's
-//! invariant says (`IsNumbered`).
+//! invariant says (`IsNumbering`).
 ghost use Rattle.std.specs.Prelude.{◌≡◌, ◌≤◌, ◌<◌, [], ◌∷◌, ◌++◌, length, None, unwrap_or, vec_len, vec_capacity};
 ghost use Rattle.std.specs.Prelude.{IfOk, OnErr, OnOk};
-ghost use Rattle.script_parser.specs.Names.{number_among, with_name, number_of, noted, number_made};
+ghost use Rattle.script_parser.specs.Names.{number_among, with_name, name_number, noted, number_made};
 
 use std::alloc::{AllocError, Global};
 use std::collections::BTreeMap;
@@ -23,11 +23,11 @@ impl Model for ClientNames {
 
     ghost Value = { List (List ℕ) };
 
-    ghost use Rattle.script_parser.specs.Inside.Names.{names_in, IsNumbered};
+    ghost use Rattle.script_parser.specs.Inside.Names.{names_in, IsNumbering};
 
     ghost view = { λ n. names_in n.numbers.entries };
 
-    ghost invariant = { λ n. IsNumbered n.numbers };
+    ghost invariant = { λ n. IsNumbering n.numbers };
 }
 
 impl ClientNames {
@@ -107,15 +107,15 @@ impl Names {
     }
 
     /// The number of a name of the client at a place; none where no line of the client made it.
-    #[tactic(auto, unfolding(crate::specs::Names::number_of))]
+    #[tactic(auto, unfolding(crate::specs::Names::name_number))]
     pub(crate) fn number_of(&self, client: usize, name: &str) -> Option<usize>
-        ensures { result ≡ number_of client name.now self.now.clients.items }
+        ensures { result ≡ name_number client name.now self.now.clients.items }
     {
         self.clients.get(client)?.number_of(name)
     }
 
     /// Notes that a line of the client at a place made this name, and answers its number.
-    #[tactic(auto, unfolding(crate::specs::Names::number_made, crate::specs::Names::number_of))]
+    #[tactic(auto, unfolding(crate::specs::Names::number_made, crate::specs::Names::name_number))]
     pub(crate) fn note(
         &mut self,
         alloc: Global,

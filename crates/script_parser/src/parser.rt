@@ -35,8 +35,8 @@ pub(crate) struct Parser {
 impl Parser {
     ghost use Rattle.script_parser.specs.Commands.{phase_line, with_line};
     ghost use Rattle.script_parser.specs.Faults.{said_with, words_line};
-    ghost use Rattle.script_parser.specs.Inside.Faults.{Asks, Follows};
-    ghost use Rattle.script_parser.specs.Inside.Reading.{settled};
+    ghost use Rattle.script_parser.specs.Inside.Faults.{Asks, AgreesWith};
+    ghost use Rattle.script_parser.specs.Inside.Reading.{kept_after};
     ghost use Rattle.script_parser.specs.Reading.{with_asked};
     ghost use Rattle.script_parser.specs.declared.script.LineKind.TheVariants as kind;
 
@@ -60,7 +60,7 @@ impl Parser {
 
     /// Takes a line, and keeps what it says.
     fn line(&mut self, number: u64, line: &str) -> Result<(), LineFault>
-        ensures { Follows (said_with (context_of self.old) number line.now) (context_of self.new) result }
+        ensures { AgreesWith (said_with (context_of self.old) number line.now) (context_of self.new) result }
     {
         match self.ask(number, line)? {
             LineKind::Nothing => {}
@@ -111,7 +111,7 @@ impl Parser {
 
     /// Notes that a phase has begun, where the first one is asked.
     pub(crate) fn settle(&mut self, asked: &LineKind) -> Result<(), AllocError>
-        ensures settled { OnOk result (context_of self.new ≡ settled asked.now (context_of self.old)) }
+        ensures settled { OnOk result (context_of self.new ≡ kept_after asked.now (context_of self.old)) }
         ensures left { OnErr result (context_of self.new ≡ context_of self.old) }
         ensures asked { OnErr result (asked.now ≡ kind.Phase) }
     {

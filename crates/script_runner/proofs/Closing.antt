@@ -8,7 +8,7 @@ use Rattle.std.specs.Option.{option_or}
 use mathlib.Core.List.{IsPrefix}
 use Rattle.group_history.specs.Meaning.{Meanings}
 use Rattle.head_word.specs.declared.entry.Entry.{Entry}
-use Rattle.head_word.specs.Books.{opening, opening_ref}
+use Rattle.head_word.specs.Books.{book_opening, opening_ref}
 use Rattle.head_word.specs.Marks.{Known, own}
 use Rattle.rebase.specs.Clients.{ClientState}
 use Rattle.rebase.proofs.Seating.{below_or_at}
@@ -111,7 +111,7 @@ module _ {M : Type 0} where
         client = h.next;
         is = record { at = inl h.sits; calm = h.calm };
         seat = ap (λ (m : Known). m.seat) mark ∙ was.seat;
-        opened = subst (λ (m : Known). IsPrefix (opening count (opening_ref commit)) m.log) (sym mark) was.opened;
+        opened = subst (λ (m : Known). IsPrefix (book_opening count (opening_ref commit)) m.log) (sym mark) was.opened;
       }
 
   read_in : (book : List Entry) (number : ℕ) (old new : ClientTurn M) → HasReadThrough old new

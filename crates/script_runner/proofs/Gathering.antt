@@ -10,7 +10,7 @@ use Rattle.std.specs.Prelude.{option_map}
 use mathlib.Core.List.{IsPrefix}
 use Rattle.group_history.specs.Meaning.{Meanings}
 use Rattle.head_word.specs.declared.entry.Entry.{Entry}
-use Rattle.head_word.specs.Books.{IsOpened, opening, opening_ref, seats_of}
+use Rattle.head_word.specs.Books.{IsOpened, book_opening, opening_ref, seats_of}
 use Rattle.head_word.specs.Marks.{own, own_of}
 use Rattle.head_word.specs.Tallies.{mine}
 use Rattle.head_word.proofs.Counting.{mine_more}
@@ -23,7 +23,7 @@ use Rattle.script_runner.specs.Commanding.{LearnsFirst, Player}
 use Rattle.script_runner.specs.Records.{IsIn, IsRecordOf}
 use Rattle.script_runner.specs.Sights.{sight_at}
 use Rattle.script_runner.specs.Inside.Players.{player_of, players_of}
-use Rattle.script_runner.specs.Inside.Records.{AreConfirmed, AreSeated, Covers, HasLearnt, IsClientOf, IsManned}
+use Rattle.script_runner.specs.Inside.Records.{AreConfirmed, AreSeated, HasSeen, HasLearnt, IsClientOf, IsManned}
 use Rattle.script_runner.specs.Inside.Records.{IsSeated, IsSitting, log_at}
 use Rattle.script_runner.specs.Inside.Records.{log_of}
 use Rattle.script_runner.specs.Inside.Turns.{AreOf, AreOfOneGroup}
@@ -61,7 +61,7 @@ module _ {M : Type 0} where
   -- one more was heard of, whose client sits at its place
   pub heard : (old turn new other : ClientTurn M) → HasLearnt old turn → IsSitting other
       → LearnsFirst (sight_at other.client.place) turn.client.place new.client.place → HasLearnt old new
-      × IsPrefix (log_at turn) (log_at new) × Covers new other
+      × IsPrefix (log_at turn) (log_at new) × HasSeen new other
   heard old turn new other were sits learns =
       let o = sits.0 in
       let by_sight = subst (λ x. LearnsFirst x turn.client.place new.client.place)
@@ -85,7 +85,7 @@ module _ {M : Type 0} where
 
   -- those that were covered are covered still
   pub still_covers : (turn new : ClientTurn M) (others : List (ClientTurn M)) → IsPrefix (log_at turn) (log_at new)
-      → All (Covers turn) others → All (Covers new) others
+      → All (HasSeen turn) others → All (HasSeen new) others
   still_covers turn new others more all k d below =
       begins (log_at (slice_index_or others k d)) (log_at turn) (log_at new) (all k d below) more
 
@@ -106,13 +106,13 @@ module _ {M : Type 0} where
           | inl less ↦
               let same : slice_index_or (slice_set turns i new) k d ≡ slice_index_or turns k d =
               get_or-set_other turns i k new d (λ e. absurd (let f : k ≡ i = e in omega (f, less, arith))) in
-              subst (λ t. HasLearnt (slice_index_or old k d) t × Covers t other) (sym same) (were.each k d less within)
+              subst (λ t. HasLearnt (slice_index_or old k d) t × HasSeen t other) (sym same) (were.each k d less within)
           | inr at ↦
               let now : slice_index_or (slice_set turns i new) k d ≡ new =
               ap (λ n. slice_index_or (slice_set turns i new) n d) at ∙ get_or-set_same turns i new d here in
               let then : turn ≡ slice_index_or old k d =
               was ∙ get_or_default old i turn d low ∙ ap (λ n. slice_index_or old n d) (sym at) in
-              subst (λ t. HasLearnt (slice_index_or old k d) t × Covers t other) (sym now)
+              subst (λ t. HasLearnt (slice_index_or old k d) t × HasSeen t other) (sym now)
               (subst (λ t. HasLearnt t new) then h.0, h.2)
         ];
         rest = λ k d above within.
@@ -159,12 +159,12 @@ module _ {M : Type 0} (count commit : ℕ) where
   -- the client of the turn is the one that sits there
   the_client : (old : ClientTurn M) (number : ℕ) (c : ClientState) → old.client.place.client ≡ Some c
       → IsSeated count commit number old.client.place → (c.seat.mark.seat ≡ Some number)
-      × IsPrefix (opening count (opening_ref commit)) c.seat.mark.log
+      × IsPrefix (book_opening count (opening_ref commit)) c.seat.mark.log
   the_client old number c is seated =
       let same = one_client seated.client c old.client.place seated.is
       (ap (λ o. option_or o old.client.place.reading) is) in (
         ap (λ x. x.seat.mark.seat) (sym same) ∙ seated.seat,
-        subst (λ x. IsPrefix (opening count (opening_ref commit)) x.seat.mark.log) same seated.opened,
+        subst (λ x. IsPrefix (book_opening count (opening_ref commit)) x.seat.mark.log) same seated.opened,
       )
 
   own_next : (old new : ClientTurn M) (number : ℕ) (h : HasLearnt old new)
@@ -207,7 +207,7 @@ module _ {M : Type 0} (count commit : ℕ) where
   -- all clients are in the book that the first of them has seen
   pub gathered : (means : Meanings) (turns rest others : List (ClientTurn M)) (first now : ClientTurn M)
       → turns ≡ first ∷ rest
-      → HasLearnt first now → All (Covers now) rest → AreConfirmed (length rest) now rest others
+      → HasLearnt first now → All (HasSeen now) rest → AreConfirmed (length rest) now rest others
       → IsOpened means (log_at now)
       → count ≡ length turns → AreSeated count commit (players_of turns)
       → (book : List Entry) × IsRecordOf means (players_of turns) book
@@ -216,7 +216,7 @@ module _ {M : Type 0} (count commit : ℕ) where
       → (book : List Entry) × IsRecordOf means (players_of ts) book) (sym is) (λ many seated.
       let book = log_at now in let sat = seated 0 (player_of first.client) (omega arith) in
       let in_first = first_in first now learnt sat in
-      let opened = begins (opening count (opening_ref commit)) learnt.client.seat.mark.log book
+      let opened = begins (book_opening count (opening_ref commit)) learnt.client.seat.mark.log book
       (the_client first 0 learnt.client learnt.sat sat).1
       (subst (λ x. IsPrefix learnt.client.seat.mark.log (log_of x)) (sym learnt.sits) learnt.seat.later.seen) in (
         book,
@@ -228,7 +228,7 @@ module _ {M : Type 0} (count commit : ℕ) where
       )) many seated
     where
       each : (rest others : List (ClientTurn M)) (first now : ClientTurn M) (learnt : HasLearnt first now)
-          → All (Covers now) rest → AreConfirmed (length rest) now rest others
+          → All (HasSeen now) rest → AreConfirmed (length rest) now rest others
           → IsIn (log_at now) 0 (player_of first.client)
           → AreSeated count commit (players_of (first ∷ rest)) → (i : ℕ) (p : Player)
           → i < length (players_of (first ∷ rest))

@@ -11,7 +11,7 @@ use Rattle.head_word.specs.Marks.{Known}
 use Rattle.rebase.specs.Calls.{caller_of}
 use Rattle.rebase.specs.Clients.{ClientState}
 use Rattle.rebase.proofs.CallLemmas.{caller_stays}
-use Rattle.client_desk.specs.Inside.Sitting.{IsCalm}
+use Rattle.client_desk.specs.Inside.Sitting.{IsAtRest}
 use Rattle.client_desk.specs.Learning.{LearnsAt}
 use Rattle.client_desk.specs.Places.{PlaceState}
 use Rattle.client_desk.specs.Told.{Told}
@@ -70,7 +70,7 @@ module _ (means : Meanings) (sights : List (Option Known)) (x : Command) (seen :
   n = moment_seen (sight_at next)
 
   -- So is the line of a client that sits at its place, where it is exact.
-  pub plain_line : place.client ≡ Some c → IsCalm place → MayTell means sights x mid t next
+  pub plain_line : place.client ≡ Some c → IsAtRest place → MayTell means sights x mid t next
       → IsExactAt means seen mid next → IsPlainlyTold means x place next t old (sight_at next)
   plain_line sat calm may exact =
       let k = caught_up c seen place mid sat calm learnt in
@@ -115,7 +115,7 @@ told_plain means sights seen place l before text after now h was all =
     let home = seated means sights seen place l.1 before h.client h.next h.mid t h.at h.learnt h.may.may was in
     elim home.is.at [
       | inl sits ↦
-          let calm : IsCalm h.client.place = (home.is.calm, sits.1) in
+          let calm : IsAtRest h.client.place = (home.is.calm, sits.1) in
           let k = caught_up home.client seen h.client.place h.mid sits.0 calm h.learnt in
           let sees : now ≡ sight_at h.next.place =
           h.sees ∙ ap (λ o. seen_behind o seen (sight_at h.next.place)) k.calm.1 in

@@ -13,7 +13,8 @@ use Rattle.group_history.specs.declared.refs.Ref.{Ref}
 use Rattle.group_history.specs.Meaning.{Meanings}
 use Rattle.head_word.specs.declared.entry.Entry.{Entry}
 use Rattle.head_word.specs.declared.entry.Entry.TheVariants as v
-use Rattle.head_word.specs.Books.{AreBySeats, IsBySeat, StartsOpened, opened_at, opening, opening_entries, record_of}
+use Rattle.head_word.specs.Books.{AreBySeats, IsBySeat, StartsOpened, opened_at, book_opening, opening_entries}
+use Rattle.head_word.specs.Books.{record_of}
 use Rattle.head_word.specs.Books.{seats_of, with_change}
 use Rattle.head_word.specs.Marks.{Known, own_of}
 use Rattle.head_word.specs.Tallies.{key_of, mine}
@@ -131,7 +132,7 @@ module _ (old new : Known) (seat : new.seat ≡ old.seat) (pre : IsPrefix old.lo
 -- ---- the moves of all seats
 
 -- what a book opens with is one move, by no seat
-pub moves_opened : (count : ℕ) (at : Ref) → moves (opening count at) ≡ 1
+pub moves_opened : (count : ℕ) (at : Ref) → moves (book_opening count at) ≡ 1
 moves_opened count at = refl
 
 no_seat : (k : ℕ) → (0 == suc k) ≡ false
@@ -140,7 +141,7 @@ no_seat k = elim (eqb_tells 0 (suc k)) [
   | inr not ↦ not.0
 ]
 
-pub none_opened : (k count : ℕ) (at : Ref) → mine (suc k) (opening count at) ≡ []
+pub none_opened : (k count : ℕ) (at : Ref) → mine (suc k) (book_opening count at) ≡ []
 none_opened k count at = rw (no_seat k) refl
 
 by_seat : (k n : ℕ) → 0 < k → k ≤ n → (i : ℕ) × (i < n) × (k ≡ suc i)

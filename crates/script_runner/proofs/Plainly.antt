@@ -45,7 +45,7 @@ use Rattle.client_desk.specs.Answers.{AnswersLack, Polls, read_by_client}
 use Rattle.client_desk.specs.Answers.{PollsChanges, AnswersRead, Refreshes, TellsChanges, TellsMoment, TellsMomentAs}
 use Rattle.client_desk.specs.Answers.{AnswersQuery as Queries}
 use Rattle.client_desk.specs.Answers.{Rule, Unwatches, Watches, absent, made_room, tries}
-use Rattle.client_desk.specs.Inside.Sitting.{IsCalm}
+use Rattle.client_desk.specs.Inside.Sitting.{IsAtRest}
 use Rattle.client_desk.specs.Calls.{AnswersCalm, MayAnswerAt}
 use Rattle.client_desk.specs.Kept.{IsNumberFor, kept_at}
 use Rattle.client_desk.specs.Learning.{LearnsAt, sight_of}
@@ -61,7 +61,7 @@ use Rattle.script_parser.specs.declared.script.MutatorCall.{MutatorCall}
 use Rattle.script_parser.specs.declared.script.Query.{Query}
 use Rattle.script_parser.specs.declared.script.Query.TheVariants as query
 use Rattle.script_runner.specs.Answering.{moment_seen, record_seen}
-use Rattle.script_runner.specs.Inside.Exact.{IsExact}
+use Rattle.script_runner.specs.Inside.Exact.{IsExactCall}
 use Rattle.script_runner.specs.Commanding.{AsksDesk, AsksQuery, LearnsFirst, MayTell, learnt_by}
 use Rattle.script_runner.specs.Plain.{IsDone, Plain, changed, counted, ended, if_kept, looked, mutated}
 use Rattle.script_runner.specs.Plain.{plain_sitting, query_told, reading_at, reading_behind, client_reading}
@@ -71,8 +71,8 @@ use Rattle.script_runner.proofs.Seated.{begins_reading, caught_up, leaves_none, 
 use Rattle.script_runner.proofs.Replying.{ended_means, ended_says, id_means, id_says, replies, says_right, tells_right}
 
 module _ (means : Meanings) (seen : Option Known) (c d : ClientState) (b a : PlaceState) (t : Told)
-    (sat : b.client ≡ Some c) (calm : IsCalm b) (there : client_at a ≡ Some d)
-    (exact : IsExact means seen c.seat.mark d.seat.mark) where
+    (sat : b.client ≡ Some c) (calm : IsAtRest b) (there : client_at a ≡ Some d)
+    (exact : IsExactCall means seen c.seat.mark d.seat.mark) where
   abbrev now : State
   now = after (record_seen seen)
 
@@ -90,11 +90,11 @@ module _ (means : Meanings) (seen : Option Known) (c d : ClientState) (b a : Pla
   seen_at : (next : ClientState) → client_at a ≡ Some next → record_seen (sight_at a) ≡ record_of next.seat.mark.log
   seen_at next is = ap (λ o. record_seen (option_map sight_of o)) is
 
-  exact_at : (next : ClientState) → client_at a ≡ Some next → IsExact means seen c.seat.mark next.seat.mark
+  exact_at : (next : ClientState) → client_at a ≡ Some next → IsExactCall means seen c.seat.mark next.seat.mark
   exact_at next is =
       let whole : Some d ≡ Some next = sym there ∙ is in
       let same : d ≡ next = cc whole in
-      subst (λ (x : ClientState). IsExact means seen c.seat.mark x.seat.mark) same exact
+      subst (λ (x : ClientState). IsExactCall means seen c.seat.mark x.seat.mark) same exact
 
   still_at : (next : ClientState) → client_at a ≡ Some next → own next.seat.mark ≡ own c.seat.mark
       → record_seen (sight_at a) ≡ record_seen seen
@@ -103,7 +103,7 @@ module _ (means : Meanings) (seen : Option Known) (c d : ClientState) (b a : Pla
   seen_by : (next : ClientState) → a.client ≡ Some next → record_seen (sight_at a) ≡ record_of next.seat.mark.log
   seen_by next is = seen_at next (at_end next is)
 
-  exact_by : (next : ClientState) → a.client ≡ Some next → IsExact means seen c.seat.mark next.seat.mark
+  exact_by : (next : ClientState) → a.client ≡ Some next → IsExactCall means seen c.seat.mark next.seat.mark
   exact_by next is = exact_at next (at_end next is)
 
   still : (next : ClientState) → a.client ≡ Some next → own next.seat.mark ≡ own c.seat.mark

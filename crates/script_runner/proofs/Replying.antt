@@ -16,7 +16,7 @@ use Rattle.rebase.specs.Replies as replied
 use Rattle.client_desk.specs.declared.outcomes.Outcome.TheVariants.{Refused}
 use Rattle.client_desk.specs.Told.{Told, ended_told, id_told, replied_told, tells, told_alone}
 use Rattle.script_runner.specs.Answering.{record_seen}
-use Rattle.script_runner.specs.Inside.Exact.{IsExact}
+use Rattle.script_runner.specs.Inside.Exact.{IsExactCall}
 use Rattle.script_runner.specs.Plain.{IsDone, Plain}
 
 -- A reply is the right one at the state after this record, and the record gains its change; or it is refused for want
@@ -29,7 +29,7 @@ IsRight old new reply change right =
 
 refuses : {X : Type 0} (means : Meanings) (seen : Option Known) (n : ℕ) (old new : Known) (e : Refusal)
     (reply : Result X Refusal) (right : State → Result X Refusal) (o : Option Change) (b : Bool) → reply ≡ Err e
-    → is_mute e o ≡ b → IsExact means seen old new → IsRefused means n old new b e o (λ s. right s ≡ Err e)
+    → is_mute e o ≡ b → IsExactCall means seen old new → IsRefused means n old new b e o (λ s. right s ≡ Err e)
     → ((reply ≡ right (after (record_seen seen))) × (record_of new.log ≡ record_seen seen ++ with_change o []))
     ⊎ ((f : Refusal) × (is_resource_refusal f ≡ true) × (reply ≡ Err f) × (record_of new.log ≡ record_seen seen))
 refuses means seen n old new e reply right None true is mute exact left = inr (e, mute, is, exact.none left.0)
@@ -41,7 +41,7 @@ refuses means seen n old new e reply right o false is mute exact answered =
     )
 
 pub replies : {X : Type 0} (means : Meanings) (seen : Option Known) (n : ℕ) (old new : Known) (reply : Result X Refusal)
-    (change : Result X Refusal → Option Change) (right : State → Result X Refusal) → IsExact means seen old new
+    (change : Result X Refusal → Option Change) (right : State → Result X Refusal) → IsExactCall means seen old new
     → IsLinearized means n old new reply change right
     → IsRight (record_seen seen) (record_of new.log) reply change right
 replies means seen n old new (Ok x) change right exact is =

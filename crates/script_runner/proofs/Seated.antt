@@ -7,7 +7,7 @@ use mathlib.Core.List.{IsPrefix}
 use Rattle.group_history.specs.Map.{Bytes}
 use Rattle.group_history.specs.Meaning.{Meanings}
 use Rattle.head_word.specs.declared.entry.Entry.{Entry}
-use Rattle.head_word.specs.Books.{opening, opening_ref}
+use Rattle.head_word.specs.Books.{book_opening, opening_ref}
 use Rattle.head_word.specs.Marks.{Known, own}
 use Rattle.commit_graph.specs.Seats.{IsSameSeat}
 use Rattle.rebase.specs.Clients.{ClientState, Grouped}
@@ -18,7 +18,7 @@ use Rattle.client_desk.specs.Places.{PlaceState, client_at, with_client}
 use Rattle.client_desk.specs.Answers.{At, MayBeginReading, absent}
 use Rattle.client_desk.specs.Calls.{MayAnswerAt}
 use Rattle.client_desk.specs.Waiting.{MayAnswerWaiting}
-use Rattle.client_desk.specs.Inside.Sitting.{IsCalm}
+use Rattle.client_desk.specs.Inside.Sitting.{IsAtRest}
 use Rattle.client_desk.specs.Told.{Told}
 use Rattle.client_desk.proofs.Remaining.{IsSitting, remains}
 use Rattle.script_parser.specs.Context.{Lines}
@@ -92,8 +92,8 @@ leaves_none (command.Changes n) h = h
 leaves_none (command.Unwatch n) h = h
 
 -- a place with another client is as calm
-pub calm_with : (before after : PlaceState) (c : ClientState) → after ≡ with_client c before → IsCalm before
-    → IsCalm after
+pub calm_with : (before after : PlaceState) (c : ClientState) → after ≡ with_client c before → IsAtRest before
+    → IsAtRest after
 calm_with before after c is calm =
     (ap (λ (p : PlaceState). p.asking) is ∙ calm.0, ap (λ (p : PlaceState). p.reading) is ∙ calm.1)
 
@@ -115,14 +115,14 @@ pub record GoesOn (c : ClientState) (after : PlaceState) : Type 0 where
 
 -- a client that sits at its place begins a reading, or is refused
 pub begins_reading : (means : Meanings) (c : ClientState) (b : PlaceState) (t : Told) (a : PlaceState)
-    → b.client ≡ Some c → IsCalm b → MayAnswerWaiting means call.BeginRead b t a → MayBeginReading means c b t a
+    → b.client ≡ Some c → IsAtRest b → MayAnswerWaiting means call.BeginRead b t a → MayBeginReading means c b t a
 begins_reading means c b t a sits calm h =
     elim (subst (λ x. MayAnswerAt (λ name. true) means call.BeginRead x b t a) calm.0 h) [
       | inl dry ↦ absurd dry.0
       | inr done ↦ subst (λ o. At o (absent b.reading) (MayBeginReading means) b t a) sits done
     ]
 
-by_begun : (means : Meanings) (c : ClientState) (b : PlaceState) (t : Told) (a : PlaceState) → IsCalm b
+by_begun : (means : Meanings) (c : ClientState) (b : PlaceState) (t : Told) (a : PlaceState) → IsAtRest b
     → MayBeginReading means c b t a → GoesOn c a
 by_begun means c b t a calm (inl r) = record {
   next = r.reader;
@@ -142,7 +142,7 @@ by_begun means c b t a calm (inr l) = record {
 }
 
 by_sitting : (means : Meanings) (c : ClientState) (made : DeskCall) (b : PlaceState) (t : Told) (a : PlaceState)
-    → b.client ≡ Some c → IsCalm b → IsSitting made → MayAnswerWaiting means made b t a → GoesOn c a
+    → b.client ≡ Some c → IsAtRest b → IsSitting made → MayAnswerWaiting means made b t a → GoesOn c a
 by_sitting means c made b t a sits calm is h =
     let r = remains means c b a t sits calm made is h in record {
       next = r.0;
@@ -152,7 +152,7 @@ by_sitting means c made b t a sits calm is h =
 
 -- so does each call that a command is
 pub makes_on : (means : Meanings) (x : Command) (c : ClientState) (made : DeskCall) (b : PlaceState) (t : Told)
-    (a : PlaceState) → b.client ≡ Some c → IsCalm b → AsksDesk x made → MayAnswerWaiting means made b t a → GoesOn c a
+    (a : PlaceState) → b.client ≡ Some c → IsAtRest b → AsksDesk x made → MayAnswerWaiting means made b t a → GoesOn c a
 makes_on means x c (call.Sit id) b t a sits calm asked h = absurd (sits_none x id asked)
 makes_on means x c call.Leave b t a sits calm asked h = absurd (leaves_none x asked)
 makes_on means x c call.BeginRead b t a sits calm asked h =
@@ -168,17 +168,17 @@ begins xs ys zs p q =
 pub record HasCaughtUp (c : ClientState) (seen : Option Known) (after : PlaceState) : Type 0 where
   pub client : ClientState
   pub sits : after.client ≡ Some client
-  pub calm : IsCalm after
+  pub calm : IsAtRest after
   pub seat : IsSameSeat c.seat client.seat
   pub own : own client.seat.mark ≡ own c.seat.mark
   pub sees : (known : Known) → seen ≡ Some known → IsPrefix known.log client.seat.mark.log
 
 pub caught_up : (c : ClientState) (seen : Option Known) (before after : PlaceState) → before.client ≡ Some c
-    → IsCalm before → LearnsFirst seen before after → HasCaughtUp c seen after
+    → IsAtRest before → LearnsFirst seen before after → HasCaughtUp c seen after
 caught_up c None before after sits calm h = record {
   client = c;
   sits = ap (λ (p : PlaceState). p.client) h ∙ sits;
-  calm = subst IsCalm (sym h) calm;
+  calm = subst IsAtRest (sym h) calm;
   seat = record {
     table = refl;
     later = record { book = refl; seat = refl; seen = ([], append-nil c.seat.mark.log) };
@@ -201,7 +201,7 @@ caught_up c (Some seen) before after sits calm h =
 
 -- a command of a client that sits at its place
 pub sits_on : (means : Meanings) (sights : List (Option Known)) (x : Command) (c : ClientState) (b : PlaceState)
-    (t : Told) (a : PlaceState) → b.client ≡ Some c → IsCalm b → MayTell means sights x b t a → GoesOn c a
+    (t : Told) (a : PlaceState) → b.client ≡ Some c → IsAtRest b → MayTell means sights x b t a → GoesOn c a
 sits_on means sights (command.Learn place) c b t a sits calm h =
     let k = caught_up c (kept_at sights place) b a sits calm h.learnt in record {
       next = k.client;
@@ -228,7 +228,8 @@ module _ (count commit number : ℕ) where
     client = goes.next;
     is = goes.is;
     seat = goes.seat.later.seat ∙ was.seat;
-    opened = begins (opening count (opening_ref commit)) was.client.seat.mark.log goes.next.seat.mark.log was.opened
+    opened = begins (book_opening count
+        (opening_ref commit)) was.client.seat.mark.log goes.next.seat.mark.log was.opened
         goes.seat.later.seen;
   }
 

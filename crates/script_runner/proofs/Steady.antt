@@ -11,14 +11,14 @@ use mathlib.Core.List.{IsPrefix}
 use Rattle.group_history.specs.Map.{Bytes}
 use Rattle.group_history.specs.Meaning.{Meanings}
 use Rattle.head_word.specs.declared.entry.Entry.{Entry}
-use Rattle.head_word.specs.Books.{opening, opening_ref, record_of, with_change}
+use Rattle.head_word.specs.Books.{book_opening, opening_ref, record_of, with_change}
 use Rattle.head_word.specs.Marks.{Known, known, own}
 use Rattle.head_word.specs.Tallies.{mine}
 use Rattle.linearized.specs.Answered.{is_move, own_moves}
 use Rattle.push_body.specs.declared.identities.Identity.{Identity}
 use Rattle.rebase.specs.Clients.{ClientState}
 use Rattle.client_desk.specs.Learning.{sight_of}
-use Rattle.client_desk.specs.Inside.Sitting.{IsCalm}
+use Rattle.client_desk.specs.Inside.Sitting.{IsAtRest}
 use Rattle.client_desk.specs.Places.{PlaceState, client_at}
 use Rattle.client_desk.specs.Told.{Told}
 use Rattle.script_parser.specs.declared.script.Command.{Command}
@@ -30,7 +30,7 @@ use Rattle.script_runner.specs.Runs.{AreNewPlayers, IsNewPlayer, seats_for}
 use Rattle.script_runner.specs.Settling.{AreSteady, IsWhole, StaySteady, moves_seen, own_at, own_count}
 use Rattle.script_runner.specs.Sights.{seen_behind, sight_at}
 use Rattle.script_runner.specs.Inside.Calls.{IsCalledAt}
-use Rattle.script_runner.specs.Inside.Exact.{IsExact, IsExactAt}
+use Rattle.script_runner.specs.Inside.Exact.{IsExactCall, IsExactAt}
 use Rattle.script_runner.specs.Inside.Players.{player_of, players_of}
 use Rattle.script_runner.specs.Inside.Records.{AreSeated, IsSeated}
 use Rattle.script_runner.proofs.Gathering.{still_same}
@@ -83,25 +83,31 @@ steady_new means identity lines players new =
 
 -- the client at the place has seen all moves that the lines before have seen
 sees_moves : (seen : Option Known) (log : List Entry) (count commit : ℕ)
-    → IsPrefix (opening count (opening_ref commit)) log
+    → IsPrefix (book_opening count (opening_ref commit)) log
     → ((known : Known) → seen ≡ Some known → IsPrefix known.log log) → moves_seen seen ≤ moves log
 sees_moves None log count commit opened sees =
-    omega (moves_grow (opening count (opening_ref commit)) log opened, moves_opened count (opening_ref commit), arith)
+    omega (
+      moves_grow (book_opening count (opening_ref commit)) log opened,
+      moves_opened count
+          (opening_ref commit),
+      arith,
+    )
 sees_moves (Some known) log count commit opened sees = moves_grow known.log log (sees known refl)
 
 -- and where it has seen no more moves, the record is that one
 sees_record : (seen : Option Known) (log : List Entry) (count commit : ℕ)
-    → IsPrefix (opening count (opening_ref commit)) log
+    → IsPrefix (book_opening count (opening_ref commit)) log
     → ((known : Known) → seen ≡ Some known → IsPrefix known.log log) → moves log ≡ moves_seen seen
     → record_of log ≡ record_seen seen
 sees_record None log count commit opened sees same =
-    record_same (opening count (opening_ref commit)) log opened (same ∙ sym (moves_opened count (opening_ref commit)))
+    record_same (book_opening count (opening_ref commit)) log opened (same ∙ sym (moves_opened count
+    (opening_ref commit)))
 sees_record (Some known) log count commit opened sees same = record_same known.log log (sees known refl) same
 
 exact_call : (means : Meanings) (seen : Option Known) (old new : Known) (seat : new.seat ≡ old.seat)
     (pre : IsPrefix old.log new.log)
     → moves old.log + length (own_moves new) ≡ moves new.log + length (own_moves old)
-    → record_of old.log ≡ record_seen seen → IsExact means seen old new
+    → record_of old.log ≡ record_seen seen → IsExactCall means seen old new
 exact_call means seen old new seat pre alone before = record {
   before = before;
   alone =
@@ -176,7 +182,7 @@ module _ (means : Meanings) (sights : List (Option Known)) (seen : Option Known)
       (was.seated place client below)
 
   -- the client of the line sits at its place
-  module _ (sits : client.place.client ≡ Some seated.client) (calm : IsCalm client.place) where
+  module _ (sits : client.place.client ≡ Some seated.client) (calm : IsAtRest client.place) where
     abbrev k : HasCaughtUp seated.client seen mid
     k = caught_up seated.client seen client.place mid sits calm learnt
 
@@ -196,7 +202,7 @@ module _ (means : Meanings) (sights : List (Option Known)) (seen : Option Known)
           is = d.is;
           seat = still_same seated.client.seat k.client.seat d.next.seat k.seat d.seat;
         }) in
-        let opened = begins (opening n (opening_ref was.commit)) seated.client.seat.mark.log m.log seated.opened
+        let opened = begins (book_opening n (opening_ref was.commit)) seated.client.seat.mark.log m.log seated.opened
         k.seat.later.seen in
         let sight : sight_at next.place ≡ Some (sight_of d.next) = ap (option_map sight_of) there in
         let total = sum_by-set own_at before place next client below in
@@ -293,7 +299,7 @@ module _ (means : Meanings) (sights : List (Option Known)) (seen : Option Known)
       → HasGone seen before ended now
   gone now sees = elim seated.is.at [
     | inl s ↦
-        let calm : IsCalm client.place = (seated.is.calm, s.1) in
+        let calm : IsAtRest client.place = (seated.is.calm, s.1) in
         subst (HasGone seen before ended)
         (sym (sees ∙ ap (λ o. seen_behind o seen (sight_at next.place)) (sat_still s.0 calm))) (went s.0 calm).0
     | inr r ↦
@@ -304,7 +310,7 @@ module _ (means : Meanings) (sights : List (Option Known)) (seen : Option Known)
   ]
 
   -- the line of a client that sits at its place is exact where all moves are the clients'
-  pub exact_sitting : (now : Option Known) → client.place.client ≡ Some seated.client → IsCalm client.place
+  pub exact_sitting : (now : Option Known) → client.place.client ≡ Some seated.client → IsAtRest client.place
       → now ≡ sight_at next.place → IsWhole ended now → IsExactAt means seen mid next.place
   exact_sitting now sits calm sees all = (went sits calm).1 (subst (IsWhole ended) sees all)
 

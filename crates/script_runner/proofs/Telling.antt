@@ -7,7 +7,7 @@ use Rattle.script_parser.specs.declared.script.Command.{Command}
 use Rattle.client_desk.specs.Told.{Told}
 use Rattle.script_runner.specs.Commanding.{MayPrint, MayTell, Player}
 use Rattle.script_runner.specs.Printing.{line_text, told_text}
-use Rattle.script_runner.specs.Inside.Turns.{IsTold}
+use Rattle.script_runner.specs.Inside.Turns.{IsLineTold}
 
 pub on_ok : {X E A B : Type 0} (r : Result X E) → (A → B) → OnOk r A → OnOk r B
 on_ok (Ok x) f a = f a
@@ -23,7 +23,7 @@ pub line_told : {X E : Type 0} (means : Meanings) (sights : List (Option Known))
     (before after : Player) (t : Told) (name old new : Bytes) (r : Result X E)
     → MayTell means sights l.1 before.place t after.place → after.name ≡ before.name → name ≡ after.name
     → OnOk r (new ≡ old ++ line_text l.0 name (told_text l.1 t))
-    → OnOk r (IsTold means sights before l old new after)
+    → OnOk r (IsLineTold means sights before l old new after)
 line_told means sights l before after t name old new r may same named printed =
     on_ok r (λ is. record {
       told = told_text l.1 t;

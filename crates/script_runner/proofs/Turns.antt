@@ -25,8 +25,8 @@ use Rattle.script_runner.specs.Printing.{line_text}
 use Rattle.script_runner.specs.Sights.{CanLearnAll, IsSeenAt}
 use Rattle.script_parser.specs.Scripts.{line_said, lines_at, phase_said}
 use Rattle.script_runner.specs.Inside.Players.{player_of, players_of}
-use Rattle.script_runner.specs.Inside.Turns.{AreOf, AreOfOneGroup, IsPrinted, IsTold, IsTurn, StayInGroup}
-use Rattle.script_runner.specs.Inside.Turns.{printed_text, texts_of}
+use Rattle.script_runner.specs.Inside.Turns.{AreOf, AreOfOneGroup, IsPrinted, IsLineTold, IsClientTurn, StayInGroup}
+use Rattle.script_runner.specs.Inside.Turns.{printed_text, turn_texts}
 
 -- LISTS
 
@@ -51,17 +51,17 @@ mapped-more f g xs new x ys i y k q so is same =
 -- TEXTS
 
 text_with : {M : Type 0} (ts : List (ClientTurn M)) (t : ClientTurn M)
-    → concat (texts_of (ts ++ t ∷ [])) ≡ concat (texts_of ts) ++ printed_text t.printed
+    → concat (turn_texts (ts ++ t ∷ [])) ≡ concat (turn_texts ts) ++ printed_text t.printed
 text_with ts t =
-    ap concat (map-append (λ u. printed_text u.printed) ts (t ∷ [])) ∙ concat-append (texts_of ts)
-    (printed_text t.printed ∷ []) ∙ ap (λ w. concat (texts_of ts) ++ w) (append-nil (printed_text t.printed))
+    ap concat (map-append (λ u. printed_text u.printed) ts (t ∷ [])) ∙ concat-append (turn_texts ts)
+    (printed_text t.printed ∷ []) ∙ ap (λ w. concat (turn_texts ts) ++ w) (append-nil (printed_text t.printed))
 
 -- a turn of the loop over the clients
 pub text-more : {M : Type 0} (all : List (ClientTurn M)) (i : ℕ) (t : ClientTurn M) (old new : Bytes) → i < length all
-    → t ≡ get_or all i t → old ≡ concat (texts_of (take i all)) → new ≡ old ++ printed_text t.printed
-    → new ≡ concat (texts_of (take (i + 1) all))
+    → t ≡ get_or all i t → old ≡ concat (turn_texts (take i all)) → new ≡ old ++ printed_text t.printed
+    → new ≡ concat (turn_texts (take (i + 1) all))
 text-more all i t old new k q o n =
-    n ∙ ap (λ w. w ++ printed_text t.printed) o ∙ sym (text_with (take i all) t) ∙ ap (λ w. concat (texts_of w))
+    n ∙ ap (λ w. w ++ printed_text t.printed) o ∙ sym (text_with (take i all) t) ∙ ap (λ w. concat (turn_texts w))
     (ap (λ w. take i all ++ w ∷ []) q ∙ sym (take_more all i t k))
 
 -- known bytes that grow twice
@@ -111,7 +111,8 @@ module _ (means : Meanings) where
   pub line-more : (sights : List (Option Known)) (c mid end : Player) (all : List Line) (i : ℕ) (l : Line)
       (old new : Bytes)
       → i < length all → l ≡ get_or all i l
-      → AreTold means sights c (map line_said (take i all)) old mid → IsTold means sights mid (line_said l) old new end
+      → AreTold means sights c (map line_said (take i all)) old mid
+      → IsLineTold means sights mid (line_said l) old new end
       → AreTold means sights c (map line_said (take (i + 1) all)) new end
   line-more sights c mid end all i l old new k q h a =
       let front = ap (map line_said) (take_more all i l k ∙ ap (λ w. take i all ++ w ∷ []) (sym q)) ∙ map-append
@@ -184,11 +185,11 @@ module _ {M : Type 0} (means : Meanings) where
   -- a client's part of a phase, as it stands in the lists
   pub part : (sights : List (Option Known)) (old new : List (ClientTurn M)) (p : Phase) (i : ℕ) (d : ClientTurn M)
       → i < length old → i < length new → i < p.clients
-      → IsTurn means sights (lines_at p.parts.items i) (slice_index_or old i d).client
+      → IsClientTurn means sights (lines_at p.parts.items i) (slice_index_or old i d).client
       (slice_index_or new i d) → IsPrinted (slice_index_or new i d)
       → (l : Lines) (b : Player) (t : Bytes) (a : Player)
       → AreTold means sights (slice_index_or (players_of old) i b) (slice_index_or (phase_said p) i l)
-      (slice_index_or (texts_of new) i t) (slice_index_or (players_of new) i a)
+      (slice_index_or (turn_texts new) i t) (slice_index_or (players_of new) i a)
   part sights old new p i d in_old in_new in_lines turn printed l b t a =
       let before : slice_index_or (players_of old) i b
       ≡ player_of (slice_index_or old i d).client = get_or-map
@@ -196,7 +197,7 @@ module _ {M : Type 0} (means : Meanings) where
       let said : slice_index_or (phase_said p) i l
       ≡ lines_at p.parts.items i = get_or-map-range_with_len
       (lines_at p.parts.items) 0 p.clients i i l in_lines (omega arith) in
-      let text : slice_index_or (texts_of new) i t
+      let text : slice_index_or (turn_texts new) i t
       ≡ printed_text (slice_index_or new i d).printed = get_or-map
       (λ u. printed_text u.printed) new i d t in_new in
       let after : slice_index_or (players_of new) i a
@@ -205,10 +206,10 @@ module _ {M : Type 0} (means : Meanings) where
       let told = told_of (λ w. AreTold means sights (player_of (slice_index_or old i d).client)
       (lines_at p.parts.items i) w (player_of (slice_index_or new i d).client))
       (slice_index_or new i d).printed printed turn.told in
-      subst (λ w. AreTold means sights w (slice_index_or (phase_said p) i l) (slice_index_or (texts_of new) i t)
+      subst (λ w. AreTold means sights w (slice_index_or (phase_said p) i l) (slice_index_or (turn_texts new) i t)
       (slice_index_or (players_of new) i a)) (sym before)
       (subst (λ w. AreTold means sights (player_of (slice_index_or old i d).client) w
-      (slice_index_or (texts_of new) i t) (slice_index_or (players_of new) i a)) (sym said)
+      (slice_index_or (turn_texts new) i t) (slice_index_or (players_of new) i a)) (sym said)
       (subst (λ w. AreTold means sights (player_of (slice_index_or old i d).client)
       (lines_at p.parts.items i) w
       (slice_index_or (players_of new) i a)) (sym text)
@@ -220,9 +221,9 @@ module _ {M : Type 0} (means : Meanings) where
   pub phase : (sights : List (Option Known)) (old new : List (ClientTurn M)) (p : Phase)
       → sights ≡ all_sights (players_of old) → length new ≡ length old → length old ≡ p.clients
       → ((i : ℕ) (d : ClientTurn M) → i < length old
-      → IsTurn means sights (lines_at p.parts.items i) (slice_index_or old i d).client
+      → IsClientTurn means sights (lines_at p.parts.items i) (slice_index_or old i d).client
       (slice_index_or new i d)) → All IsPrinted new
-      → IsPhase means (phase_said p) (players_of old) (texts_of new) (players_of new)
+      → IsPhase means (phase_said p) (players_of old) (turn_texts new) (players_of new)
   phase sights old new p is as_many enough turns printed =
       let olds = length-map old (λ u. player_of u.client) in
       let news = length-map new (λ u. player_of u.client) in
@@ -236,7 +237,7 @@ module _ {M : Type 0} (means : Meanings) where
             let in_lines : i < p.clients = omega (in_old, enough, arith) in
             let d = some_of old i in_old in
             subst (λ ss. AreTold means ss (slice_index_or (players_of old) i b)
-            (slice_index_or (phase_said p) i l) (slice_index_or (texts_of new) i t)
+            (slice_index_or (phase_said p) i l) (slice_index_or (turn_texts new) i t)
             (slice_index_or (players_of new) i a)) is
             (part sights old new p i d in_old in_new in_lines (turns i d in_old)
             (printed i d in_new) l b t a);
@@ -245,7 +246,7 @@ module _ {M : Type 0} (means : Meanings) where
   -- and they are of one group still
   pub still_one : (sights : List (Option Known)) (old new : List (ClientTurn M)) (p : Phase) → length new ≡ length old
       → ((i : ℕ) (d : ClientTurn M) → i < length old
-      → IsTurn means sights (lines_at p.parts.items i) (slice_index_or old i d).client
+      → IsClientTurn means sights (lines_at p.parts.items i) (slice_index_or old i d).client
       (slice_index_or new i d))
       → StayInGroup old new
   still_one sights old new p as_many turns book of_one i d below =

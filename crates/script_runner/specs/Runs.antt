@@ -6,7 +6,7 @@ use Rattle.std.specs.Io.KnownBytes.{Appends, Keeps}
 use Rattle.group_history.specs.Map.{Bytes}
 use Rattle.group_history.specs.Meaning.{Meanings}
 use Rattle.head_word.specs.declared.entry.Entry.{Entry}
-use Rattle.head_word.specs.Books.{opening, opening_ref}
+use Rattle.head_word.specs.Books.{book_opening, opening_ref}
 use Rattle.head_word.specs.Marks.{Known, known}
 use Rattle.push_body.specs.declared.identities.Identity.{Identity}
 use Rattle.commit_graph.specs.Seats.{SeatState}
@@ -53,7 +53,7 @@ seats_for (suc n) = suc n
 
 -- the mark of the seat of this number, of a group that was just opened for so many: it has seen the opening alone
 abbrev pub mark_at : Grouped → ℕ → ℕ → ℕ → Known
-mark_at group count commit number = known group.group.book (opening count (opening_ref commit)) (Some number)
+mark_at group count commit number = known group.group.book (book_opening count (opening_ref commit)) (Some number)
 
 -- A client before the first phase, by its number, of a group for so many, whose mutators mean this: it sat down at a
 -- new place, by its ID, on the seat of that number.

@@ -6,8 +6,8 @@ ghost use Rattle.rebase.specs.Clients.{Grouped};
 ghost use Rattle.script_runner.specs.Phases.{AreTold, IsPhase, all_sights};
 ghost use Rattle.script_runner.specs.Sights.{CanLearnAll};
 ghost use Rattle.script_runner.specs.Inside.Players.{player_of, players_of};
-ghost use Rattle.script_runner.specs.Inside.Turns.{AreOf, AreOfOneGroup, IsPrinted, IsTold, IsTurn, StayInGroup};
-ghost use Rattle.script_runner.specs.Inside.Turns.{texts_of};
+ghost use Rattle.script_runner.specs.Inside.Turns.{AreOf, AreOfOneGroup, IsClientTurn, IsLineTold, IsPrinted};
+ghost use Rattle.script_runner.specs.Inside.Turns.{StayInGroup, turn_texts};
 
 use crate::client::ScriptClient;
 use crate::words::print_line;
@@ -47,7 +47,7 @@ impl<M: Mutators + Drop> ScriptClient<M> {
         printed: &mut Vec<u8>,
     ) -> Result<(), AllocError>
         requires learn { CanLearnAll self.old.place.group sights.now }
-        ensures told { OnOk result (IsTold M.means sights.now (player_of self.old) (line_said line.now)
+        ensures told { OnOk result (IsLineTold M.means sights.now (player_of self.old) (line_said line.now)
             printed.old.items printed.new.items (player_of self.new)) }
         ensures group { self.new.place.group ≡ self.old.place.group }
     {
@@ -93,7 +93,7 @@ impl<M: Mutators + Drop> ClientTurn<M> {
         lines: &[Line],
     )
         requires { CanLearnAll self.old.client.place.group sights.now }
-        ensures { IsTurn M.means sights.now (map line_said lines.now) self.old.client self.new }
+        ensures { IsClientTurn M.means sights.now (map line_said lines.now) self.old.client self.new }
     {
         self.printed = self.client.tell_all(host, sights, lines);
     }
@@ -130,7 +130,7 @@ pub(crate) fn run_phase<R: Threads + Wait + Sync, G: Gate, M: Mutators + Send + 
     requires lines { length turns.old ≡ phase.now.clients }
     requires one { AreOfOneGroup turns.old }
     ensures phase { OnOk result (All IsPrinted turns.new
-        → IsPhase M.means (phase_said phase.now) (players_of turns.old) (texts_of turns.new) (players_of turns.new)) }
+        → IsPhase M.means (phase_said phase.now) (players_of turns.old) (turn_texts turns.new) (players_of turns.new)) }
     ensures group { StayInGroup turns.old turns.new }
     ensures count { length turns.new ≡ length turns.old }
 {
@@ -145,7 +145,7 @@ pub(crate) fn run_phase<R: Threads + Wait + Sync, G: Gate, M: Mutators + Send + 
         count,
         &|i, turn| -> ()
             requires one { CanLearnAll turn.now.client.place.group sights.items }
-            ensures { IsTurn M.means sights.items (lines_at phase.entry.now.parts.items i)
+            ensures { IsClientTurn M.means sights.items (lines_at phase.entry.now.parts.items i)
                 turn.entry.now.client turn.exit.now }
         { turn.play(host, &sights, phase.lines_of(i)) },
     );

@@ -8,7 +8,7 @@ ghost use Rattle.script_runner.specs.Commanding.{LearnsFirst};
 ghost use Rattle.script_runner.specs.Records.{IsRecordOf};
 ghost use Rattle.script_runner.specs.Sights.{sight_at};
 ghost use Rattle.script_runner.specs.Inside.Players.{players_of};
-ghost use Rattle.script_runner.specs.Inside.Records.{AreConfirmed, AreSeated, Covers, HasLearnt, HasReadThrough};
+ghost use Rattle.script_runner.specs.Inside.Records.{AreConfirmed, AreSeated, HasSeen, HasLearnt, HasReadThrough};
 ghost use Rattle.script_runner.specs.Inside.Records.{HaveReadThrough, IsManned, IsSitting, log_at};
 ghost use Rattle.script_runner.specs.Inside.Turns.{AreOf, AreOfOneGroup};
 
@@ -33,7 +33,7 @@ fn hear_all<M: Mutators + Drop>(turn: &mut ClientTurn<M>, others: &[ClientTurn<M
     requires sits { IsSitting turn.old }
     requires all { All IsSitting others.now }
     ensures learnt { HasLearnt turn.old turn.new }
-    ensures seen { All (Covers turn.new) others.now }
+    ensures seen { All (HasSeen turn.new) others.now }
 {
     for other in others {
         hear(turn, other);

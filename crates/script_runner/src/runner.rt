@@ -16,7 +16,7 @@ ghost use Rattle.script_runner.specs.Runs.{AreNewPlayers, BlamesNoScript, HasRun
 ghost use Rattle.script_runner.specs.Runs.{KeepsIfFaulty, header_identity, mark_at, seats_for};
 ghost use Rattle.script_runner.specs.Inside.Players.{AreLeftOf, AreNewIn, IsNewIn, line_of, players_of};
 ghost use Rattle.script_runner.specs.Inside.Runs.{IsRun};
-ghost use Rattle.script_runner.specs.Inside.Turns.{AreOfOneGroup, IsPrinted, StayInGroup, texts_of};
+ghost use Rattle.script_runner.specs.Inside.Turns.{AreOfOneGroup, IsPrinted, StayInGroup, turn_texts};
 
 use crate::client::ScriptClient;
 use crate::phase::{ClientTurn, Gate, Host, run_phase};
@@ -41,7 +41,7 @@ fn text_of<M: Mutators + Drop>(
     alloc: Global,
     turns: &[ClientTurn<M>],
 ) -> Result<Vec<u8>, AllocError>
-    ensures text { IfOk result (λ v. v.items ≡ concat (texts_of turns.now)) }
+    ensures text { IfOk result (λ v. v.items ≡ concat (turn_texts turns.now)) }
     ensures all { OnOk result (All IsPrinted turns.now) }
 {
     let mut text = Vec::new(alloc);
@@ -64,8 +64,8 @@ fn write_phase<R: Threads + Wait + Sync, G: Gate, M: Mutators + Send + Drop, W: 
     requires lines { length turns.old ≡ phase.now.clients }
     requires one { AreOfOneGroup turns.old }
     ensures phase { OnOk result (IsPhase M.means (phase_said phase.now) (players_of turns.old)
-        (texts_of turns.new) (players_of turns.new)) }
-    ensures text { OnOk result (Appends (W.contents out.old) (W.contents out.new) (concat (texts_of turns.new))) }
+        (turn_texts turns.new) (players_of turns.new)) }
+    ensures text { OnOk result (Appends (W.contents out.old) (W.contents out.new) (concat (turn_texts turns.new))) }
     ensures group { StayInGroup turns.old turns.new }
     ensures count { length turns.new ≡ length turns.old }
     ensures want { IsRunWant result → Keeps (W.contents out.old) (W.contents out.new) }

@@ -20,8 +20,8 @@ use Rattle.script_server.specs.Answers.{behind_rules, given_in, ok_text, rules_o
 use Rattle.script_server.specs.Standing.{Standing, means_in}
 use Rattle.script_server.specs.declared.heads.HeaderLine.{HeaderLine}
 use Rattle.script_server.specs.declared.heads.HeaderLine.TheVariants as head
-use Rattle.script_server.specs.Inside.Stages.{HasDone, IsFirstPhase, IsHead, IsHeadOf, IsNoCommand, IsOpen}
-use Rattle.script_server.specs.Inside.Stages.{IsPlaced, WhereWhole}
+use Rattle.script_server.specs.Inside.Stages.{HasDone, IsFirstPhase, IsHead, IsHeadOf, IsNoCommand, HasPhase}
+use Rattle.script_server.specs.Inside.Stages.{IsPlayerThere, WhereWhole}
 
 -- ---- rules
 
@@ -68,7 +68,7 @@ given_open : (phases : List (List Lines)) (line : Bytes) → 0 < length phases �
 given_open [] line some = absurd (omega arith)
 given_open (p ∷ ps) line some = refl
 
-pub given_in_open : (before : Standing) (line : Bytes) → IsOpen before → given_in before line ≡ None
+pub given_in_open : (before : Standing) (line : Bytes) → HasPhase before → given_in before line ≡ None
 given_in_open before line there = given_open before.said.phases line there.begun
 
 begins_later : (phases : List (List Lines)) (before : Standing) (said : Context) (after : Standing) → 0 < length phases
@@ -76,14 +76,14 @@ begins_later : (phases : List (List Lines)) (before : Standing) (said : Context)
 begins_later [] before said after some is = absurd (omega arith)
 begins_later (p ∷ ps) before said after some is = is
 
-pub begins_next : (before : Standing) (said : Context) (after : Standing) → IsOpen before
+pub begins_next : (before : Standing) (said : Context) (after : Standing) → HasPhase before
     → after ≡ record before { said = said; sights = all_sights before.players }
     → BeginsPhase before.said.phases before said after
 begins_next before said after there is = begins_later before.said.phases before said after there.begun is
 
 -- the client of a command is there
-pub placed : (n : ℕ) (what : LineKind) (before : Standing) (said : Context) → IsOpen before
-    → LineAsks n before.said what said → IsPlaced what before.players
+pub placed : (n : ℕ) (what : LineKind) (before : Standing) (said : Context) → HasPhase before
+    → LineAsks n before.said what said → IsPlayerThere what before.players
 placed n asked.Nothing before said there asks = tt
 placed n asked.Phase before said there asks = tt
 placed n (asked.Command place line) before said there asks =
@@ -91,7 +91,7 @@ placed n (asked.Command place line) before said there asks =
 
 -- what a line asks was done
 pub answers_done : (what : LineKind) (n : ℕ) (line : Bytes) (before : Standing) (text : Bytes) (after : Standing)
-    (said : Context) → IsOpen before → bytes_said_with before.said n line ≡ Ok said → LineAsks n before.said what said
+    (said : Context) → HasPhase before → bytes_said_with before.said n line ≡ Ok said → LineAsks n before.said what said
     → HasDone what n (record before { said = without_lines said }) text after
     → WhereWhole before after (Answers n line before text after)
 answers_done asked.Nothing n line before text after said there right asks done was all =
@@ -109,7 +109,7 @@ answers_done (asked.Command place l) n line before text after said there right a
     })
 
 pub on_done : {E : Type 0} (what : LineKind) (r : Result (Unit {0}) E) (n : ℕ) (line : Bytes) (before : Standing)
-    (text : Bytes) (after : Standing) (said : Context) → IsOpen before → bytes_said_with before.said n line ≡ Ok said
+    (text : Bytes) (after : Standing) (said : Context) → HasPhase before → bytes_said_with before.said n line ≡ Ok said
     → LineAsks n before.said what said
     → OnOk r (HasDone what n (record before { said = without_lines said }) text after)
     → OnOk r (WhereWhole before after (Answers n line before text after))

@@ -40,8 +40,8 @@ unfoldable pub ok_text : ℕ → Bytes
 ok_text n = concat (decimal n ∷ codes " ok\n" ∷ [])
 
 -- `LINE fault TEXT`
-unfoldable pub refused_text : ℕ → Bytes → Bytes
-refused_text n fault = concat (decimal n ∷ codes " fault " ∷ fault ∷ codes "\n" ∷ [])
+unfoldable pub fault_line : ℕ → Bytes → Bytes
+fault_line n fault = concat (decimal n ∷ codes " fault " ∷ fault ∷ codes "\n" ∷ [])
 
 -- ---- rules
 
@@ -75,7 +75,7 @@ rules_with given (Some text) = first_rules given (rules_said text)
 
 -- a line that gives rules
 abbrev pub GivesRules : Result Rules Bytes → ℕ → Standing → Bytes → Standing → Type 0
-GivesRules (Err fault) n before text after = (text ≡ refused_text n fault) × (after ≡ before)
+GivesRules (Err fault) n before text after = (text ≡ fault_line n fault) × (after ≡ before)
 GivesRules (Ok rules) n before text after = (text ≡ ok_text n) × (after ≡ record before { rules = Some rules })
 
 -- ---- phases
@@ -119,7 +119,7 @@ Does (asked.Command place line) n before said text after = TellsLine place line 
 
 -- A line that says something, or is faulty. A faulty one changes nothing.
 abbrev pub Says : Result Context ScriptFault → ℕ → Standing → Bytes → Standing → Type 0
-Says (Err f) n before text after = (text ≡ refused_text n (fault_text f)) × (after ≡ before)
+Says (Err f) n before text after = (text ≡ fault_line n (fault_text f)) × (after ≡ before)
 Says (Ok said) n before text after =
     (what : LineKind) × LineAsks n before.said what said × Does what n before (without_lines said) text after
 

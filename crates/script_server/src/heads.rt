@@ -9,7 +9,7 @@ ghost use Rattle.script_server.specs.Answers.{GivesRules, behind_rules, first_ru
 ghost use Rattle.script_server.specs.Answers.{rules_with};
 ghost use Rattle.script_server.specs.Serving.{HasEnded};
 ghost use Rattle.script_server.specs.Inside.Stages.{AreHeads, HasTurned, IsHead, IsHeadOf, IsNoCommand, heads_stand};
-ghost use Rattle.script_server.specs.Inside.Stages.{place_of};
+ghost use Rattle.script_server.specs.Inside.Stages.{served_at};
 
 use crate::printing::{print_fault, print_ok, rules_fault};
 use crate::streams::{Buffers, ServeEnd, read_line, write_answer};
@@ -235,10 +235,10 @@ impl Heads {
     ) -> Result<HeaderTurn, ServeEnd>
         requires { (heads_stand self.old).said.phases ≡ [] }
         ensures turned { IfOk result (λ turn. HasTurned turn
-            (place_of (heads_stand self.old) number (I.remaining input.old) (W.contents out.old))
+            (served_at (heads_stand self.old) number (I.remaining input.old) (W.contents out.old))
             (heads_stand self.new) (I.remaining input.new) (W.contents out.new)) }
         ensures ended { OnErr result (HasEnded
-            (place_of (heads_stand self.old) number (I.remaining input.old) (W.contents out.old))
+            (served_at (heads_stand self.old) number (I.remaining input.old) (W.contents out.old))
             (W.contents out.new)) }
     {
         if !read_line(input, &mut buffers.line)? {
@@ -263,10 +263,10 @@ impl Heads {
         requires { (heads_stand self.old).said.phases ≡ [] }
         ensures number { IfOk result (λ first. IfSome first (λ n. n < 2 ^ 64 - 1)) }
         ensures heads { IfOk result (λ first. AreHeads first
-            (place_of (heads_stand self.old) 1 (I.remaining input.old) (W.contents out.old))
+            (served_at (heads_stand self.old) 1 (I.remaining input.old) (W.contents out.old))
             (heads_stand self.new) (I.remaining input.new) (W.contents out.new)) }
         ensures ended { OnErr result (HasEnded
-            (place_of (heads_stand self.old) 1 (I.remaining input.old) (W.contents out.old)) (W.contents out.new)) }
+            (served_at (heads_stand self.old) 1 (I.remaining input.old) (W.contents out.old)) (W.contents out.new)) }
     {
         for number in 1..u64::MAX {
             match self.turn(number, input, out, buffers)? {

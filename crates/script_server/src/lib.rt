@@ -6,8 +6,8 @@
 //! an answer; `server` is all of it over a reader and two writers, with the statuses of a process.
 //!
 //! What a line is answered, and how it leaves the clients, is `specs/Answers.antt`: what a script's line says is the
-//! parser's word (`bytes_said_with`), what a client's line is told the runner's (`IsToldAt`; `IsPlain`: what the group
-//! of one thread replies behind all lines before), what rules are that of `rule_mutators`. What a whole input is
+//! parser's word (`bytes_said_with`), what a client's line is told the runner's (`IsToldAt`; `IsPlainlyTold`: what the
+//! group of one thread replies behind all lines before), what rules are that of `rule_mutators`. What a whole input is
 //! answered is `specs/Serving.antt`; `program` has the clauses. Where serving ends early they say how many lines were
 //! answered, and that a beginning at most was written of one answer more, whose line may have been done. Each answer is
 //! one line (`IsLine`). No clause of the group says that a reply has no line feed inside, so `write_answer` looks

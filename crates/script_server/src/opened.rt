@@ -6,9 +6,9 @@ ghost use Rattle.script_runner.specs.Settling.{AreSteady};
 ghost use Rattle.script_server.specs.Answers.{Answers, IsLine, OpensGroup, ok_text};
 ghost use Rattle.script_server.specs.Serving.{HasEnded, ServedPlace};
 ghost use Rattle.script_server.specs.Standing.{Standing, rules_in};
-ghost use Rattle.script_server.specs.Inside.Stages.{HasAnswered, HasBegun, HasDone, IsPlaced, IsServed, IsOpen};
+ghost use Rattle.script_server.specs.Inside.Stages.{HasAnswered, BeginsAt, HasDone, IsPlayerThere, IsServed, HasPhase};
 ghost use Rattle.script_server.specs.Inside.Stages.{IsWholeAt, StaysSteady, WhereWhole};
-ghost use Rattle.script_server.specs.Inside.Stages.{heads_stand, opened_stand, place_of};
+ghost use Rattle.script_server.specs.Inside.Stages.{heads_stand, opened_stand, served_at};
 ghost use Rattle.script_server.specs.Inside.Writes.{WritesSome};
 
 use crate::heads::Heads;
@@ -56,10 +56,10 @@ impl<B: NamesRules + Sync + Drop> Opened<B> {
         line: &[u8],
         text: &mut Vec<u8>,
     ) -> Result<(), AllocError>
-        requires { IsOpen (opened_stand self.old) }
+        requires { HasPhase (opened_stand self.old) }
         ensures answered { OnOk result (WhereWhole (opened_stand self.old) (opened_stand self.new)
             (Answers number line.now (opened_stand self.old) text.new.items (opened_stand self.new))) }
-        ensures there { OnOk result (IsOpen (opened_stand self.new)) }
+        ensures there { OnOk result (HasPhase (opened_stand self.new)) }
         ensures steady { StaysSteady (opened_stand self.old) (opened_stand self.new) }
     {
         text.clear();
@@ -92,7 +92,7 @@ impl<B: NamesRules + Sync + Drop> Opened<B> {
         text: &mut Vec<u8>,
     ) -> Result<(), AllocError>
         requires empty { text.old.items ≡ [] }
-        requires place { IsPlaced asked (opened_stand self.old).players }
+        requires place { IsPlayerThere asked (opened_stand self.old).players }
         ensures done { OnOk result (HasDone asked number (opened_stand self.old) text.new.items
             (opened_stand self.new)) }
         ensures said { (opened_stand self.new).said ≡ (opened_stand self.old).said }
@@ -115,12 +115,12 @@ impl<B: NamesRules + Sync + Drop> Opened<B> {
         out: &mut W,
         buffers: &mut Buffers,
     ) -> Result<bool, ServeEnd>
-        requires { IsOpen (opened_stand self.old) }
+        requires { HasPhase (opened_stand self.old) }
         ensures turned { IfOk result (λ is. HasAnswered is
-            (place_of (opened_stand self.old) number (I.remaining input.old) (W.contents out.old))
+            (served_at (opened_stand self.old) number (I.remaining input.old) (W.contents out.old))
             (opened_stand self.new) (I.remaining input.new) (W.contents out.new)) }
         ensures ended { OnErr result (WhereWhole (opened_stand self.old) (opened_stand self.new) (HasEnded
-            (place_of (opened_stand self.old) number (I.remaining input.old) (W.contents out.old))
+            (served_at (opened_stand self.old) number (I.remaining input.old) (W.contents out.old))
             (W.contents out.new))) }
         ensures steady { StaysSteady (opened_stand self.old) (opened_stand self.new) }
     {
@@ -141,12 +141,12 @@ impl<B: NamesRules + Sync + Drop> Opened<B> {
         out: &mut W,
         buffers: &mut Buffers,
     ) -> Result<(), ServeEnd>
-        requires { IsOpen (opened_stand self.old) }
+        requires { HasPhase (opened_stand self.old) }
         ensures served { OnOk result (WhereWhole (opened_stand self.old) (opened_stand self.new) (IsServed
-            (place_of (opened_stand self.old) first (I.remaining input.old) (W.contents out.old))
+            (served_at (opened_stand self.old) first (I.remaining input.old) (W.contents out.old))
             (W.contents out.new))) }
         ensures ended { OnErr result (WhereWhole (opened_stand self.old) (opened_stand self.new) (HasEnded
-            (place_of (opened_stand self.old) first (I.remaining input.old) (W.contents out.old))
+            (served_at (opened_stand self.old) first (I.remaining input.old) (W.contents out.old))
             (W.contents out.new))) }
         ensures steady { StaysSteady (opened_stand self.old) (opened_stand self.new) }
     {
@@ -167,15 +167,15 @@ impl<B: NamesRules + Sync + Drop> Opened<B> {
         out: &mut W,
         buffers: &mut Buffers,
     ) -> Result<(), ServeEnd>
-        requires there { IsOpen (opened_stand self.old) }
+        requires there { HasPhase (opened_stand self.old) }
         requires number { number < 2 ^ 64 - 1 }
         ensures served { (old : ServedPlace) (before : Standing)
-            → HasBegun old (place_of before number (I.remaining input.old) (W.contents out.old))
+            → BeginsAt old (served_at before number (I.remaining input.old) (W.contents out.old))
             → OpensGroup before before.said (opened_stand self.old)
             → OnOk result (WhereWhole (opened_stand self.old) (opened_stand self.new)
             (IsServed old (W.contents out.new))) }
         ensures ended { (old : ServedPlace) (before : Standing)
-            → HasBegun old (place_of before number (I.remaining input.old) (W.contents out.old))
+            → BeginsAt old (served_at before number (I.remaining input.old) (W.contents out.old))
             → OpensGroup before before.said (opened_stand self.old)
             → OnErr result (WhereWhole (opened_stand self.old) (opened_stand self.new)
             (HasEnded old (W.contents out.new))) }
@@ -218,11 +218,11 @@ pub(crate) fn serve_phases<
     requires rules { rules_in (heads_stand heads) ≡ B.rules }
     requires phase { 0 < length (heads_stand heads).said.phases }
     requires number { number < 2 ^ 64 - 1 }
-    ensures served { (old : ServedPlace) → HasBegun old
-        (place_of (heads_stand heads) number (I.remaining input.old) (W.contents out.old))
+    ensures served { (old : ServedPlace) → BeginsAt old
+        (served_at (heads_stand heads) number (I.remaining input.old) (W.contents out.old))
         → OnOk result (IsServed old (W.contents out.new)) }
-    ensures ended { (old : ServedPlace) → HasBegun old
-        (place_of (heads_stand heads) number (I.remaining input.old) (W.contents out.old))
+    ensures ended { (old : ServedPlace) → BeginsAt old
+        (served_at (heads_stand heads) number (I.remaining input.old) (W.contents out.old))
         → OnErr result (HasEnded old (W.contents out.new)) }
 {
     let mut buffers = Buffers::new(rt.alloc());

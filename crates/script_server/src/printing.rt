@@ -4,7 +4,7 @@ ghost use Rattle.rule_mutators.specs.declared.faults.RuleFault.{RuleFault};
 ghost use Rattle.rule_mutators.specs.Answers.{IsFaultOf};
 ghost use Rattle.rule_mutators.specs.Faults.{rules_fault_text};
 ghost use Rattle.rule_mutators.specs.Rules.{Rules};
-ghost use Rattle.script_server.specs.Answers.{ok_text, refused_text};
+ghost use Rattle.script_server.specs.Answers.{ok_text, fault_line};
 
 use rule_mutators::RuleFault;
 use std::alloc::{AllocError, Global};
@@ -19,9 +19,9 @@ pub(crate) fn print_ok(text: &mut Vec<u8>, number: u64) -> Result<(), AllocError
 }
 
 /// Appends what is wrong with a line.
-#[tactic(auto, unfolding(crate::specs::Answers::refused_text))]
+#[tactic(auto, unfolding(crate::specs::Answers::fault_line))]
 pub(crate) fn print_fault(text: &mut Vec<u8>, number: u64, fault: &str) -> Result<(), AllocError>
-    ensures { OnOk result (text.new.items ≡ text.old.items ++ refused_text number fault.now) }
+    ensures { OnOk result (text.new.items ≡ text.old.items ++ fault_line number fault.now) }
 {
     let line = format!(in text.allocator().clone()?; "{number} fault {fault}\n")?;
     text.extend_from_slice(line.as_bytes())

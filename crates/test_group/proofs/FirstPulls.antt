@@ -24,7 +24,7 @@ use Rattle.group_history.proofs.Spellings.{segment-stays, version-newest}
 use Rattle.group_history.proofs.TextMaps.{empty_map}
 use Rattle.head_word.specs.declared.entry.Entry.{Entry}
 use Rattle.head_word.specs.declared.lost.Lost.{Lost}
-use Rattle.head_word.specs.Books.{drafted, drawn, next_stamp, opening, opened_at, seats_of, StartsOpened}
+use Rattle.head_word.specs.Books.{drafted, drawn, next_stamp, book_opening, opened_at, seats_of, StartsOpened}
 use Rattle.head_word.specs.Books.{IsChangeFrom}
 use Rattle.test_group.specs.Trials.{no_mutators, bare_pull, SpellsBare}
 use Rattle.head_word.proofs.Books.{drawn_more, next_more}
@@ -34,7 +34,7 @@ use Rattle.head_word.proofs.Stepping.{opening_spells, spells_from, starts_from, 
 empty_root : (log : List Entry) → StartsOpened log → map_in (spelled (drawn log)) 0 ≡ Some finite.empty
 empty_root log starts =
     let begun = starts_with log starts in
-    let first = opening (seats_of log) (opened_at log) in
+    let first = book_opening (seats_of log) (opened_at log) in
     let leaf : Segment = record { depth = 1; rows = [] } in
     let all : drawn first ++ drawn begun.0 ≡ drawn log = sym (drawn_more first begun.0) ∙ ap drawn begun.1 in
     let there : segment_at (drawn log) 0 ≡ Some leaf = subst (λ cs. segment_at cs 0 ≡ Some leaf) all
@@ -84,7 +84,7 @@ pub bare_follows : (log : List Entry) (cookie : Cookie) (base new : Ref) → Sta
     → IsChangeFrom no_mutators (drawn log) base new (bare_pull cookie)
 bare_follows log cookie base new starts at_opening later above spells =
     let known : Spells no_mutators (drawn log) 1 opening_state = spells_from no_mutators
-    (opening (seats_of log) (opened_at log)) log 1 opening_state (starts_with log starts)
+    (book_opening (seats_of log) (opened_at log)) log 1 opening_state (starts_with log starts)
     (opening_spells no_mutators (seats_of log) (opened_at log)) in
     record {
       state = opening_state;
@@ -98,7 +98,7 @@ bare_follows log cookie base new starts at_opening later above spells =
 stamps_opened : (log : List Entry) → StartsOpened log → 2 ≤ next_stamp log
 stamps_opened log starts =
     let begun = starts_with log starts in
-    let first = opening (seats_of log) (opened_at log) in
+    let first = book_opening (seats_of log) (opened_at log) in
     let two : next_stamp first ≡ 2 = refl in
     omega (arith, two, next_more first begun.0, ap next_stamp begun.1)
 

@@ -22,8 +22,8 @@ abbrev pub no_mutators : Meanings
 no_mutators name args why m = unknown
 
 -- the snapshot of an empty map under a cookie, over the leaf that `root` names
-abbrev pub bare : Cookie → Ref → Node Ref
-bare cookie root = node.Commit (record {
+abbrev pub bare_commit : Cookie → Ref → Node Ref
+bare_commit cookie root = node.Commit (record {
   root = root;
   kind = Snapshot (record { cookie = cookie; confirmed = finite.empty });
 })

@@ -3,7 +3,7 @@ ghost use Rattle.std.specs.Prelude.{◌≡◌, [], IfOk};
 ghost use Rattle.std.specs.declared.cmp.Ordering.TheVariants.{Greater};
 ghost use Rattle.group_history.specs.Cookies.{order_cmp};
 ghost use Rattle.group_history.specs.declared.cookies.Order.TheVariants as order;
-ghost use Rattle.test_group.specs.Trials.{bare, bare_pull};
+ghost use Rattle.test_group.specs.Trials.{bare_commit, bare_pull};
 
 use group_history::{
     BoxedCommit, Change, Commit, CommitKind, ConfirmedIds, Cookie, Keys, Leaf, Means, Node, PullOk,
@@ -47,7 +47,7 @@ pub fn empty_leaf(alloc: Global) -> Result<Leaf, Refusal>
 
 /// The snapshot of an empty map under the cookie, over the leaf at `root`.
 pub fn bare_snapshot(alloc: Global, cookie: &Cookie, root: Ref) -> Result<Node<Ref>, Refusal>
-    ensures { IfOk result (λ node. node ≡ bare cookie.now root) }
+    ensures { IfOk result (λ node. node ≡ bare_commit cookie.now root) }
 {
     let commit = Commit {
         root,

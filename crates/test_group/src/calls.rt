@@ -9,7 +9,7 @@ use std::alloc::Global;
 
 /// What a client is told.
 #[derive(Clone, Copy, PartialEq, Eq, Debug)]
-pub enum Told {
+pub enum CallTold {
     /// The id of the mutation.
     Id(u64),
     Ended(Ended),
@@ -18,7 +18,7 @@ pub enum Told {
     Last(u64),
 }
 
-pub type Answer = Result<Told, Refusal>;
+pub type ToldResult = Result<CallTold, Refusal>;
 
 /// A call that was refused memory has no answer, and ends a test.
 pub fn answered<T: Drop>(answer: Result<T, Refusal>) -> Result<Result<T, Refusal>, Refusal> {
@@ -30,25 +30,25 @@ pub fn answered<T: Drop>(answer: Result<T, Refusal>) -> Result<Result<T, Refusal
 
 /// The name of a mutator and the arguments of a call of it.
 #[derive(Drop)]
-pub struct MutatorCall {
+pub struct NamedCall {
     pub name: Text,
     pub args: Json,
 }
 
-pub fn call_of(alloc: Global, name: &str, args: &str) -> Result<MutatorCall, Refusal> {
+pub fn call_of(alloc: Global, name: &str, args: &str) -> Result<NamedCall, Refusal> {
     let name = Text::new(alloc, name)?;
     let args = Json::read(alloc, args.as_bytes())?;
-    Ok(MutatorCall { name, args })
+    Ok(NamedCall { name, args })
 }
 
 pub fn mutates<S: Store<ScriptMutators>>(
     client: &mut Client<ScriptMutators, S>,
-    call: &MutatorCall,
+    call: &NamedCall,
     tries: u32,
-) -> Answer {
+) -> ToldResult {
     client
         .try_mutate(&call.name, &call.args, 1000, tries)
-        .map(Told::Id)
+        .map(CallTold::Id)
 }
 
 pub fn ends<S: Store<ScriptMutators>>(
@@ -56,12 +56,12 @@ pub fn ends<S: Store<ScriptMutators>>(
     ticket: &Ticket,
     body: &str,
     tries: u32,
-) -> Answer
+) -> ToldResult
     ensures { client.new.group ≡ client.old.group }
 {
     client
         .try_end_pull(ticket, body.as_bytes(), tries)
-        .map(Told::Ended)
+        .map(CallTold::Ended)
 }
 
 /// Ends a pull that it begins for that.
@@ -69,7 +69,7 @@ pub fn pulls<S: Store<ScriptMutators>>(
     client: &mut Client<ScriptMutators, S>,
     body: &str,
     tries: u32,
-) -> Answer
+) -> ToldResult
     ensures { client.new.group ≡ client.old.group }
 {
     let ticket = client.begin_pull(tries)?;
@@ -101,16 +101,16 @@ pub fn gets<S: Store<ScriptMutators>>(
     client: &mut Client<ScriptMutators, S>,
     key: &str,
     tries: u32,
-) -> Answer {
+) -> ToldResult {
     let tx = client.read(tries)?;
     let found = n_in(&tx, key);
     tx.close();
-    found.map(Told::Value)
+    found.map(CallTold::Value)
 }
 
 pub fn refreshes<S: Store<ScriptMutators>>(
     client: &mut Client<ScriptMutators, S>,
     tries: u32,
-) -> Answer {
-    client.refresh(tries).map(Told::Last)
+) -> ToldResult {
+    client.refresh(tries).map(CallTold::Last)
 }

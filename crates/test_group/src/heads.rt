@@ -3,7 +3,7 @@ ghost use Rattle.std.specs.Prelude.{◌≡◌, ◌<◌, IsSome, IfOk, IfSome};
 ghost use Rattle.std.specs.List.{All};
 ghost use Rattle.group_history.specs.Refs.{stamp_of, stamps, max_slots};
 ghost use Rattle.head_word.specs.Marks.{HasSeat};
-ghost use Rattle.test_group.specs.Trials.{bare, SpellsBare};
+ghost use Rattle.test_group.specs.Trials.{bare_commit, SpellsBare};
 
 use crate::bare::{Nobody, bare_change, bare_snapshot, first_cookie};
 use group_history::{Cookie, Node, Ref, Refusal};
@@ -50,7 +50,7 @@ pub fn two_heads<'a>(
 
 // The snapshot of an empty map under the cookie, over the opening's leaf.
 fn snapshot_at_first(alloc: Global, cookie: &Cookie) -> Result<Node<Ref>, Refusal>
-    ensures { IfOk result (λ node. node ≡ bare cookie.now (record { bits = 7 })) }
+    ensures { IfOk result (λ node. node ≡ bare_commit cookie.now (record { bits = 7 })) }
 {
     bare_snapshot(alloc, cookie, Ref::new(0, 7))
 }

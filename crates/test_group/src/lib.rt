@@ -11,14 +11,14 @@ mod stores;
 
 pub use bare::{Nobody, cookie_of};
 pub use calls::{
-    Answer, MutatorCall, Told, answered, call_of, ends, gets, mutates, n_in, number_in, number_of,
-    pulls, refreshes,
+    CallTold, NamedCall, ToldResult, answered, call_of, ends, gets, mutates, n_in, number_in,
+    number_of, pulls, refreshes,
 };
 pub use claims::{ClaimPlace, claim_places};
 use group_history::Refusal;
 pub use heads::{HeadPlace, next_head, two_heads};
-pub use opening::{A, B, C, D, E, Player, new_players, next_client};
-pub use stores::{Place, next_place, opened_store, places_of, shows};
+pub use opening::{A, B, C, D, E, NumberedClient, new_players, next_client};
+pub use stores::{SeatPlace, next_place, opened_store, places_of, shows};
 
 /// The first two of these.
 pub fn two_of<T>(all: &mut [T]) -> Result<(&mut T, &mut T), Refusal> {

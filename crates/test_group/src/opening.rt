@@ -72,7 +72,7 @@ pub fn next_client<M: Means, S: Store<M>>(
 /// A client that may be lent to a thread, and its number among those of its group, from 0 on. That is the number by
 /// which a gate knows its seat.
 #[derive(Drop)]
-pub struct Player<S: Store<ScriptMutators>> {
+pub struct NumberedClient<S: Store<ScriptMutators>> {
     pub number: usize,
     pub client: Client<ScriptMutators, S>,
 }
@@ -82,14 +82,14 @@ fn add_player<S: Store<ScriptMutators> + Drop>(
     group: &Group<ScriptMutators, S>,
     seats: &mut Seats<ScriptMutators, S>,
     text: &str,
-    players: &mut Vec<Player<S>>,
+    players: &mut Vec<NumberedClient<S>>,
 ) -> Result<(), Refusal>
     requires { AreSeatsOf group.now.group seats.old.free }
     ensures { AreSeatsOf group.now.group seats.new.free }
 {
     let client = next_client(group, seats, text)?;
     let number = players.len();
-    players.push(Player { number, client })?;
+    players.push(NumberedClient { number, client })?;
     Ok(())
 }
 
@@ -99,7 +99,7 @@ fn players_of<S: Store<ScriptMutators> + Drop>(
     group: &Group<ScriptMutators, S>,
     seats: &mut Seats<ScriptMutators, S>,
     ids: &[&str],
-) -> Result<Vec<Player<S>>, Refusal>
+) -> Result<Vec<NumberedClient<S>>, Refusal>
     requires { AreSeatsOf group.now.group seats.old.free }
 {
     let mut players = Vec::new(alloc);
@@ -115,7 +115,7 @@ pub fn new_players<S: Store<ScriptMutators> + Drop>(
     parts: S::Parts,
     slots: u32,
     ids: &[&str],
-) -> Result<Vec<Player<S>>, Refusal>
+) -> Result<Vec<NumberedClient<S>>, Refusal>
 where
     S::Parts: Drop,
 {

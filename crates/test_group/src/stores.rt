@@ -78,7 +78,7 @@ pub fn opened_store<S: Store<Nobody> + Drop>(
 
 /// A seat of a group, between its calls.
 #[derive(Drop)]
-pub struct Place<'a, S: Store<Nobody>> {
+pub struct SeatPlace<'a, S: Store<Nobody>> {
     pub shared: &'a Shared<Nobody, S>,
     pub seat: ClientSeat<Nobody, S>,
     ghost home: { IsSeatOf shared.now seat },
@@ -89,19 +89,19 @@ pub struct Place<'a, S: Store<Nobody>> {
 pub fn next_place<'a, S: Store<Nobody>>(
     shared: &'a Shared<Nobody, S>,
     seats: &mut Vec<ClientSeat<Nobody, S>>,
-) -> Result<Place<'a, S>, Refusal>
+) -> Result<SeatPlace<'a, S>, Refusal>
     requires { AreFreeSeatsOf S.reused shared.now seats.old.items }
     ensures { AreFreeSeatsOf S.reused shared.now seats.new.items }
 {
     let seat = seats.pop().ok_or(Refusal::NoSeat)?;
-    Ok(Place { shared, seat })
+    Ok(SeatPlace { shared, seat })
 }
 
 // Adds a place for the next seat.
 fn add_place<'a, S: Store<Nobody>>(
     shared: &'a Shared<Nobody, S>,
     seats: &mut Vec<ClientSeat<Nobody, S>>,
-    places: &mut Vec<Place<'a, S>>,
+    places: &mut Vec<SeatPlace<'a, S>>,
 ) -> Result<(), Refusal>
     requires { AreFreeSeatsOf S.reused shared.now seats.old.items }
     ensures { AreFreeSeatsOf S.reused shared.now seats.new.items }
@@ -116,7 +116,7 @@ pub fn places_of<'a, S: Store<Nobody>>(
     alloc: Global,
     shared: &'a Shared<Nobody, S>,
     seats: &mut Vec<ClientSeat<Nobody, S>>,
-) -> Result<Vec<Place<'a, S>>, Refusal>
+) -> Result<Vec<SeatPlace<'a, S>>, Refusal>
     requires { AreFreeSeatsOf S.reused shared.now seats.old.items }
 {
     let mut places = Vec::new(alloc);
@@ -145,7 +145,7 @@ fn leaf_draft(alloc: Global) -> Result<Draft, Refusal>
     Ok(draft)
 }
 
-impl<S: Store<Nobody>> Place<'_, S> {
+impl<S: Store<Nobody>> SeatPlace<'_, S> {
     // What the seat has seen is a legal book.
     fn legal(&self)
         ensures { IsOpened no_mutators self.now.seat.mark.log }

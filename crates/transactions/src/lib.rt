@@ -8,13 +8,15 @@
 //! yet. A view hands back only what it shows, so after a run of a mutator nothing would be known of the chunks that
 //! were read: where they can't change, a type parameter names their contents (`Fixed`, `NamesContents`). `RowDiff`
 //! takes the rows of a scan beside those of before, where they lie, and copies them from the first one on that differs.
-//! A scan that is made again reads only chunks that it didn't meet before: of the others `Spans` tell the rows.
+//! A scan that is made again reads only chunks that it didn't meet before: of the others `Spans` tell the rows; what it
+//! has taken so far is a `Rescan`.
 #![tactic(auto)]
 
 mod again;
 mod beside;
 mod fixed;
 mod reading;
+mod rescan;
 mod spans;
 mod staged;
 mod writing;

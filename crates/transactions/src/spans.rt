@@ -1,12 +1,14 @@
 //! Which rows of a scan are those of which chunk.
 //!
 //! A chunk never changes, and neither does a scan. So which rows a scan has of a chunk is told by the chunk's stamp. A
-//! span says of a chunk that a scan met which of the scan's rows are the chunk's: so many from a place on. Spans are of
-//! leaves and of inner chunks, and each stands before those below its chunk. Which spans there are, and which is found,
-//! is a matter of cost alone, and no clause says it; what each says is right (`AreSpans`).
+//! span says of a chunk that a scan met which of the scan's rows are the chunk's: so many from a place on. They are the
+//! first rows that the scan has of the chunk, and all where the span is whole. It isn't where the scan's limit was
+//! reached in the chunk, since there may be more. Spans are of leaves and of inner chunks, and each stands before those
+//! below its chunk. Which spans there are, and which is found, is a matter of cost alone, and no clause says it; what
+//! each says is right (`AreSpans`).
 ghost use Rattle.std.specs.Prelude.{◌≡◌, ◌⊎◌, [], Some, true, IfOk, IfSome, OnOk};
 ghost use Rattle.std.specs.List.{Contains};
-ghost use Rattle.transactions.specs.Spans.{IsMoved, LiesIn};
+ghost use Rattle.transactions.specs.Spans.{IsMoved, IsOneMoved, Tells};
 ghost use Rattle.transactions.specs.declared.spans.Span.{Span as Spanned};
 
 use group_history::{Json, Text};
@@ -14,15 +16,25 @@ use std::alloc::{AllocError, Global};
 use std::marker::Model;
 use std::sync::Arc;
 
-/// A chunk, and its rows among those of a scan.
+/// A chunk, and the first of its rows among those of a scan.
 #[derive(Clone, Copy)]
 pub(crate) struct Span {
-    // The chunk's stamp; none while its rows are still being taken, and where they were cut by the limit.
+    // The chunk's stamp; none while its rows are still being taken.
     pub(crate) stamp: Option<u64>,
     pub(crate) from: usize,
     pub(crate) count: usize,
-    // How many of the spans behind it are of chunks below its own.
+    // Whether these are all rows that the scan has of the chunk, its limit aside.
+    pub(crate) whole: bool,
+    // How many of the spans behind it are of chunks below its own. Where the span isn't whole there may be fewer.
     pub(crate) below: usize,
+}
+
+/// Rows of before that are taken again: so many from a place on. They are now the last ones of `end`.
+#[derive(Clone, Copy)]
+pub(crate) struct MovedRows {
+    pub(crate) from: usize,
+    pub(crate) count: usize,
+    pub(crate) end: usize,
 }
 
 impl Span {
@@ -36,22 +48,34 @@ impl Span {
         }
     }
 
-    // How many rows of the whole span there are from its own first one on, where it lies in that.
-    fn rest_of(&self, whole: &Span) -> Option<usize>
-        ensures { IfSome result (LiesIn whole.now self.now) }
+    // Whether it tells all rows of its chunk for which there is so much room.
+    pub(crate) fn tells(&self, room: Option<u64>) -> bool
+        ensures { result ≡ true → Tells self.now room }
     {
-        if self.from < whole.from {
+        match room {
+            None => self.whole,
+            Some(room) => self.whole || room <= self.count as u64,
+        }
+    }
+
+    // What it tells of the moved rows, where it begins among them. It stays whole where all of its rows are.
+    fn moved(&self, rows: MovedRows) -> Option<Span>
+        ensures { IfSome result (IsMoved rows.from rows.count rows.end self.now) }
+    {
+        if self.from < rows.from || self.from - rows.from > rows.count {
             return None;
         }
-        let skipped = self.from - whole.from;
-        if skipped > whole.count {
+        let rest = rows.count - (self.from - rows.from);
+        let count = self.count.min(rest);
+        if count == 0 && self.count > 0 {
             return None;
         }
-        let rest = whole.count - skipped;
-        if self.count > rest {
-            return None;
-        }
-        Some(rest)
+        Some(Span {
+            from: rows.end.saturating_sub(rest),
+            count,
+            whole: self.whole && count == self.count,
+            ..*self
+        })
     }
 }
 
@@ -102,22 +126,18 @@ impl Clone for Spans {
     }
 }
 
-// Adds those of the spans that lie in one of them, moved with it: its rows are the last ones of so many.
+// Adds what the spans tell of the moved rows.
 pub(crate) fn add_moved(
     spans: &mut Vec<Span>,
     kept: &[Span],
-    whole: &Span,
-    end: usize,
+    rows: MovedRows,
 ) -> Result<(), AllocError>
     ensures { OnOk result ((s : Spanned) → Contains spans.new.items s
-        → Contains spans.old.items s ⊎ IsMoved kept.now whole.now end s) }
+        → Contains spans.old.items s ⊎ IsOneMoved rows.from rows.count rows.end kept.now s) }
 {
     for one in kept {
-        if let Some(rest) = one.rest_of(whole) {
-            spans.push(Span {
-                from: end.saturating_sub(rest),
-                ..*one
-            })?;
+        if let Some(moved) = one.moved(rows) {
+            spans.push(moved)?;
         }
     }
     Ok(())

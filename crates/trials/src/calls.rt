@@ -1,5 +1,5 @@
 //! Calls, made of commands.
-use crate::rows::Way;
+use crate::rows::CallWay;
 use hex::FromHexError;
 use rebase::{Call, Mutate, Ticket};
 use script_parser::{Command, MutatorCall, Query};
@@ -75,7 +75,7 @@ fn bytes_of(alloc: Global, digits: &str) -> Result<Vec<u8>, AllocError> {
 pub(crate) fn body_of(
     alloc: Global,
     command: &Command,
-    way: Way<'_>,
+    way: CallWay<'_>,
 ) -> Result<Vec<u8>, AllocError> {
     match (command, way.bytes) {
         (_, Some(digits)) => bytes_of(alloc, digits),

@@ -7,13 +7,13 @@ use crate::calls::Turn;
 use crate::counts::Counted;
 use crate::failed::Failed;
 use crate::parts::{say_store, say_text};
-use crate::players::{Player, Spare};
+use crate::players::{GroupPlayer, Spare};
 use crate::readers::Readers;
 use crate::replies::Said;
-use crate::rows::{Deed, ONCE, Way};
-use crate::sheet::{Asked, Entry, Trial, is_played};
-use crate::tally::{Tally, judge};
-use crate::trial::Host;
+use crate::rows::{CallWay, Deed, ONCE};
+use crate::sheet::{AskedCommand, SheetLine, Trial, is_played};
+use crate::tally::{TrialTally, judge};
+use crate::trial::TrialHost;
 use chunk_slots::Store;
 use group_history::Refusal;
 use rebase::{Client, Config, Group, Seats};
@@ -51,13 +51,13 @@ fn next_player<'g, S: Store<ScriptMutators> + Drop>(
     group: &'g Group<ScriptMutators, S>,
     seats: &mut Seats<ScriptMutators, S>,
     id: Uuid,
-) -> Result<Player<'g, S>, Refusal>
+) -> Result<GroupPlayer<'g, S>, Refusal>
     requires { AreSeatsOf group.now.group seats.old.free }
     ensures { AreSeatsOf group.now.group seats.new.free }
 {
     let client = next_client(group, seats, id)?;
     let looker = next_client(group, seats, id)?;
-    Ok(Player::new(alloc, group, id, client, looker)?)
+    Ok(GroupPlayer::new(alloc, group, id, client, looker)?)
 }
 
 fn add_player<'g, S: Store<ScriptMutators> + Drop>(
@@ -65,7 +65,7 @@ fn add_player<'g, S: Store<ScriptMutators> + Drop>(
     group: &'g Group<ScriptMutators, S>,
     seats: &mut Seats<ScriptMutators, S>,
     id: Uuid,
-    players: &mut Vec<Option<Player<'g, S>>>,
+    players: &mut Vec<Option<GroupPlayer<'g, S>>>,
 ) -> Result<(), Refusal>
     requires { AreSeatsOf group.now.group seats.old.free }
     ensures { AreSeatsOf group.now.group seats.new.free }
@@ -80,7 +80,7 @@ fn players_of<'g, S: Store<ScriptMutators> + Drop>(
     group: &'g Group<ScriptMutators, S>,
     seats: &mut Seats<ScriptMutators, S>,
     lines: &[ClientLine],
-) -> Result<Vec<Option<Player<'g, S>>>, Refusal>
+) -> Result<Vec<Option<GroupPlayer<'g, S>>>, Refusal>
     requires { AreSeatsOf group.now.group seats.old.free }
     ensures { AreSeatsOf group.now.group seats.new.free }
 {
@@ -130,7 +130,7 @@ where
     group: &'g Group<ScriptMutators, S>,
     parts: S::Parts,
     spare: Spare<S>,
-    players: Vec<Option<Player<'g, S>>>,
+    players: Vec<Option<GroupPlayer<'g, S>>>,
 }
 
 /// The clients of a trial's group, and those that may read.
@@ -163,7 +163,7 @@ where
 #[derive(Clone, Copy)]
 struct Part<'a> {
     trial: Trial<'a>,
-    entries: &'a [Entry<'a>],
+    entries: &'a [SheetLine<'a>],
 }
 
 /// How many slots a header's group has, and as many seats as its clients, their lookers and readers take.
@@ -186,7 +186,7 @@ fn config_of(alloc: Global, header: &Header) -> Result<Config, Refusal> {
 /// The place of the client of a list, and its commands.
 fn commands_in<'a>(
     alloc: Global,
-    entries: &[Entry<'a>],
+    entries: &[SheetLine<'a>],
 ) -> Result<(usize, Vec<&'a Command>), AllocError> {
     let mut place = 0;
     let mut commands = Vec::new(alloc);
@@ -204,7 +204,13 @@ where
     S::Parts: Copy + Drop,
 {
     /// A client does a command, and says the reply; and where its looker sees another group than it should, that.
-    fn calls<R: Wait>(&mut self, it: &Turn<'_, R>, asked: Asked<'_>, way: Way<'_>, out: &mut Said) {
+    fn calls<R: Wait>(
+        &mut self,
+        it: &Turn<'_, R>,
+        asked: AskedCommand<'_>,
+        way: CallWay<'_>,
+        out: &mut Said,
+    ) {
         match self.players.get_mut(asked.place) {
             Some(Some(player)) => player.tries(it, asked.command, way, out),
             _ => out.say("no client"),
@@ -212,11 +218,11 @@ where
     }
 
     /// The client of a place, which is left empty.
-    fn leaves(&mut self, place: usize) -> Option<Player<'g, S>> {
+    fn leaves(&mut self, place: usize) -> Option<GroupPlayer<'g, S>> {
         self.players.get_mut(place)?.take()
     }
 
-    fn enters(&mut self, place: usize, player: Player<'g, S>) {
+    fn enters(&mut self, place: usize, player: GroupPlayer<'g, S>) {
         if let Some(empty) = self.players.get_mut(place) {
             drop(empty.replace(player));
         }
@@ -305,7 +311,7 @@ where
 fn does_reading<'p, R, S: Counted>(
     it: &Turn<'_, R>,
     readers: &mut Readers<'p, S>,
-    entry: &Entry<'p>,
+    entry: &SheetLine<'p>,
     out: &mut Said,
 ) {
     match entry.row.deed {
@@ -313,7 +319,7 @@ fn does_reading<'p, R, S: Counted>(
         Deed::Close(name) => readers.closes(it, name, out),
         Deed::Ask(name, way) => match entry.asked {
             Some(
-                Asked {
+                AskedCommand {
                     place: _,
                     command: Command::Query(query),
                 },
@@ -329,7 +335,7 @@ fn does<'p, R: Wait, S: Counted>(
     it: &Turn<'_, R>,
     stage: &mut Stage<'_, S>,
     readers: &mut Readers<'p, S>,
-    entry: &Entry<'p>,
+    entry: &SheetLine<'p>,
     out: &mut Said,
 )
 where
@@ -346,11 +352,11 @@ where
 
 /// Plays a line, and judges the reply.
 fn play_line<'p, R: Wait, S: Counted>(
-    host: &Host<'_, R>,
+    host: &TrialHost<'_, R>,
     stage: &mut Stage<'_, S>,
     readers: &mut Readers<'p, S>,
-    entry: &Entry<'p>,
-    tally: &mut Tally<'_>,
+    entry: &SheetLine<'p>,
+    tally: &mut TrialTally<'_>,
 ) -> Result<(), Failed>
 where
     S::Parts: Copy + Drop,
@@ -361,7 +367,7 @@ where
 }
 
 /// How many calls of one list stand first.
-fn listed(entries: &[Entry<'_>]) -> usize {
+fn listed(entries: &[SheetLine<'_>]) -> usize {
     entries
         .iter()
         .position(|entry| !entry.is_listed())
@@ -370,10 +376,10 @@ fn listed(entries: &[Entry<'_>]) -> usize {
 
 /// Plays a list of calls, and judges each reply.
 fn play_list<R: Wait, S: Counted>(
-    host: &Host<'_, R>,
+    host: &TrialHost<'_, R>,
     stage: &mut Stage<'_, S>,
-    entries: &[Entry<'_>],
-    tally: &mut Tally<'_>,
+    entries: &[SheetLine<'_>],
+    tally: &mut TrialTally<'_>,
 ) -> Result<(), Failed>
 where
     S::Parts: Copy + Drop,
@@ -388,7 +394,7 @@ where
 fn list_said<R, S: Counted>(
     it: &Turn<'_, R>,
     stage: &mut Stage<'_, S>,
-    entries: &[Entry<'_>],
+    entries: &[SheetLine<'_>],
     out: &mut Said,
 ) -> Result<(), AllocError>
 where
@@ -401,10 +407,10 @@ where
 
 /// Judges each reply of a list, or shows one of them.
 fn judge_list<R>(
-    host: &Host<'_, R>,
-    entries: &[Entry<'_>],
+    host: &TrialHost<'_, R>,
+    entries: &[SheetLine<'_>],
     out: &Said,
-    tally: &mut Tally<'_>,
+    tally: &mut TrialTally<'_>,
 ) -> Result<(), Failed> {
     let said = str::from_utf8(out.whole()?).unwrap_or("");
     if tally.shows {
@@ -415,9 +421,9 @@ fn judge_list<R>(
 
 fn judge_each(
     rt: &HostRuntime,
-    entries: &[Entry<'_>],
+    entries: &[SheetLine<'_>],
     said: &str,
-    tally: &mut Tally<'_>,
+    tally: &mut TrialTally<'_>,
 ) -> io::Result<()> {
     let mut replies = said.lines();
     for entry in entries {
@@ -437,7 +443,7 @@ fn one_of(said: &str) -> &str {
 }
 
 /// The calls of the list that begins at a place; none where none begins there.
-fn list_at<'e>(entries: &'e [Entry<'e>], at: usize) -> &'e [Entry<'e>] {
+fn list_at<'e>(entries: &'e [SheetLine<'e>], at: usize) -> &'e [SheetLine<'e>] {
     let follows = at > 0 && entries.get(at - 1).is_some_and(|entry| entry.is_listed());
     let rest = entries.get(at..).unwrap_or(&[]);
     if follows {
@@ -448,23 +454,23 @@ fn list_at<'e>(entries: &'e [Entry<'e>], at: usize) -> &'e [Entry<'e>] {
 
 /// A place among the lines of a group.
 #[derive(Clone, Copy)]
-struct Line<'p> {
-    entries: &'p [Entry<'p>],
+struct LinePlace<'p> {
+    entries: &'p [SheetLine<'p>],
     at: usize,
 }
 
 /// Plays the line at a place, or the list that begins there.
 fn play_at<'p, R: Wait, S: Counted>(
-    host: &Host<'_, R>,
+    host: &TrialHost<'_, R>,
     stage: &mut Stage<'_, S>,
     readers: &mut Readers<'p, S>,
-    line: Line<'p>,
-    tally: &mut Tally<'_>,
+    line: LinePlace<'p>,
+    tally: &mut TrialTally<'_>,
 ) -> Result<(), Failed>
 where
     S::Parts: Copy + Drop,
 {
-    let Line { entries, at } = line;
+    let LinePlace { entries, at } = line;
     let list = list_at(entries, at);
     if !list.is_empty() {
         return play_list(host, stage, list, tally);
@@ -479,27 +485,27 @@ where
 
 /// Plays the lines of a group.
 fn play_entries<'p, R: Wait, S: Counted>(
-    host: &Host<'_, R>,
+    host: &TrialHost<'_, R>,
     stage: &mut Stage<'_, S>,
     readers: &mut Readers<'p, S>,
-    entries: &'p [Entry<'p>],
-    tally: &mut Tally<'_>,
+    entries: &'p [SheetLine<'p>],
+    tally: &mut TrialTally<'_>,
 ) -> Result<(), Failed>
 where
     S::Parts: Copy + Drop,
 {
     for at in 0..entries.len() {
-        play_at(host, stage, readers, Line { entries, at }, tally)?;
+        play_at(host, stage, readers, LinePlace { entries, at }, tally)?;
     }
     Ok(())
 }
 
 fn play_with<R: Wait, S: Counted>(
-    host: &Host<'_, R>,
+    host: &TrialHost<'_, R>,
     part: Part<'_>,
     stage: &mut Stage<'_, S>,
     clients: &mut [Client<ScriptMutators, S>],
-    tally: &mut Tally<'_>,
+    tally: &mut TrialTally<'_>,
 ) -> Result<(), Failed>
 where
     S::Parts: Copy + Drop,
@@ -510,10 +516,10 @@ where
 
 /// Plays a part of a trial in a group of its own.
 fn play_part<R: Wait, S: Counted>(
-    host: &Host<'_, R>,
+    host: &TrialHost<'_, R>,
     part: Part<'_>,
     parts: S::Parts,
-    tally: &mut Tally<'_>,
+    tally: &mut TrialTally<'_>,
 ) -> Result<(), Failed>
 where
     S::Parts: Copy + Drop,
@@ -524,11 +530,11 @@ where
 }
 
 fn play_laid_out<R: Wait, S: Counted>(
-    host: &Host<'_, R>,
+    host: &TrialHost<'_, R>,
     part: Part<'_>,
     config: Config,
     parts: S::Parts,
-    tally: &mut Tally<'_>,
+    tally: &mut TrialTally<'_>,
 ) -> Result<(), Failed>
 where
     S::Parts: Copy + Drop,
@@ -541,11 +547,11 @@ where
 
 /// Plays a trial over a store: whole, or the part alone with the chosen line.
 pub(crate) fn play<R: Wait, S: Counted>(
-    host: &Host<'_, R>,
+    host: &TrialHost<'_, R>,
     trial: Trial<'_>,
     chosen: Option<usize>,
     parts: S::Parts,
-    tally: &mut Tally<'_>,
+    tally: &mut TrialTally<'_>,
 ) -> Result<(), Failed>
 where
     S::Parts: Copy + Drop,

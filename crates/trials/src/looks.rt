@@ -1,7 +1,7 @@
 //! What a client sees of the group: all of it as one text.
 ghost use Rattle.commit_graph.specs.Seats.{IsSameSeat};
 
-use crate::replies::{Answer, Said};
+use crate::replies::{CallResult, Said};
 use chunk_slots::Store;
 use group_history::{Scan, Start, Text};
 use rebase::{Call, Client};
@@ -21,7 +21,7 @@ pub(crate) fn all_rows(alloc: Global) -> Result<Scan, AllocError> {
 }
 
 /// Says what is seen, and a line feed. What is refused is not seen.
-pub(crate) fn say_seen(seen: &mut Said, answer: &Answer) {
+pub(crate) fn say_seen(seen: &mut Said, answer: &CallResult) {
     seen.say_answer("last ", answer);
     seen.say("\n");
     if answer.is_err() {

@@ -4,11 +4,11 @@ use crate::failed::Failed;
 use crate::looks::{all_rows, say_change, say_seen};
 use crate::marks::{begins, ends};
 use crate::parts::say_text;
-use crate::replies::{Answer, Said, id_word, is_change};
-use crate::rows::{Deed, Way};
-use crate::sheet::{Asked, Entry, Trial, is_played};
-use crate::tally::{Tally, judge};
-use crate::trial::Host;
+use crate::replies::{CallResult, Said, id_word, is_change};
+use crate::rows::{CallWay, Deed};
+use crate::sheet::{AskedCommand, SheetLine, Trial, is_played};
+use crate::tally::{TrialTally, judge};
+use crate::trial::TrialHost;
 use group_history::{Ended, Mutation, PlainGroup, Refusal, Scan, Text};
 use pull_patch::read_response;
 use push_body::{Identity, pull_bytes, push_bytes};
@@ -28,23 +28,23 @@ struct Plain {
 
 /// A scan that is polled, and the rows that were answered last.
 #[derive(Drop)]
-struct Watch {
+struct PlainWatch {
     scan: Scan,
     last: Option<Rows>,
 }
 
 /// A client: its ID, its last id, and what it keeps.
 #[derive(Drop)]
-struct Player {
+struct PlainPlayer {
     id: Text,
     last: u64,
     tickets: Tickets,
-    watches: BTreeMap<usize, Watch>,
+    watches: BTreeMap<usize, PlainWatch>,
     all: Scan,
 }
 
 impl Plain {
-    fn value(&self, key: &Text) -> Answer {
+    fn value(&self, key: &Text) -> CallResult {
         match self.group.get(key) {
             Some(value) => Ok(CallReply::Value(Some(value.clone()?))),
             None => Ok(CallReply::Value(None)),
@@ -59,7 +59,7 @@ impl Plain {
         Ok(copy)
     }
 
-    fn query(&self, call: Call<'_>) -> Answer {
+    fn query(&self, call: Call<'_>) -> CallResult {
         match call {
             Call::Get(key) => self.value(key),
             Call::Has(key) => Ok(CallReply::Is(self.group.has(key))),
@@ -96,7 +96,7 @@ impl Plain {
     }
 
     /// Makes a call of a client with this ID and this last id.
-    fn call(&mut self, id: &Text, last: u64, call: Call<'_>) -> Answer {
+    fn call(&mut self, id: &Text, last: u64, call: Call<'_>) -> CallResult {
         match call {
             Call::Refresh => Ok(CallReply::Id(self.group.last(id))),
             Call::PushBody => self.push(0).map(CallReply::Body),
@@ -124,10 +124,10 @@ impl Plain {
     }
 }
 
-impl Watch {
+impl PlainWatch {
     /// The watch once it is polled where these rows are, and what the poll tells.
-    fn polled(&self, rows: Rows) -> Result<(Watch, Polled), AllocError> {
-        let watch = Watch {
+    fn polled(&self, rows: Rows) -> Result<(PlainWatch, Polled), AllocError> {
+        let watch = PlainWatch {
             scan: self.scan.clone()?,
             last: Some(rows.clone()?),
         };
@@ -138,9 +138,9 @@ impl Watch {
     }
 }
 
-impl Player {
+impl PlainPlayer {
     fn watch(&mut self, number: usize, scan: &Scan) -> Result<(), AllocError> {
-        let watch = Watch {
+        let watch = PlainWatch {
             scan: scan.clone()?,
             last: None,
         };
@@ -181,7 +181,7 @@ impl Player {
         plain: &mut Plain,
         command: &Command,
         body: &[u8],
-    ) -> Option<Answer> {
+    ) -> Option<CallResult> {
         let call = call_of(&self.tickets, command, body)?;
         begins(it.rt, it.is_marked);
         let answer = plain.call(&self.id, self.last, call);
@@ -190,7 +190,7 @@ impl Player {
     }
 
     /// Keeps the ticket of a pull that is begun, and the id that is replied.
-    fn keep(&mut self, command: &Command, answer: Answer, out: &mut Said) {
+    fn keep(&mut self, command: &Command, answer: CallResult, out: &mut Said) {
         match (command, answer) {
             (Command::Begin(number), Ok(CallReply::Ticket(ticket))) => {
                 if keep_ticket(&mut self.tickets, *number, ticket).is_err() {
@@ -203,7 +203,7 @@ impl Player {
     }
 
     /// Says an answer, and keeps what is to be kept of it. Whether it is one that changes the group.
-    fn take(&mut self, command: &Command, answer: Option<Answer>, out: &mut Said) -> bool {
+    fn take(&mut self, command: &Command, answer: Option<CallResult>, out: &mut Said) -> bool {
         let Some(answer) = answer else {
             out.say("no ticket");
             return false;
@@ -219,7 +219,7 @@ impl Player {
         it: &Turn<'_, R>,
         plain: &mut Plain,
         command: &Command,
-        way: Way<'_>,
+        way: CallWay<'_>,
         out: &mut Said,
     ) -> bool {
         let Ok(body) = body_of(plain.alloc, command, way) else {
@@ -243,7 +243,7 @@ impl Player {
         it: &Turn<'_, R>,
         plain: &mut Plain,
         command: &Command,
-        way: Way<'_>,
+        way: CallWay<'_>,
         out: &mut Said,
     ) -> bool {
         match command {
@@ -267,7 +267,7 @@ impl Player {
         it: &Turn<'_, R>,
         plain: &mut Plain,
         command: &Command,
-        way: Way<'_>,
+        way: CallWay<'_>,
         out: &mut Said,
     ) {
         let before = plain.look(&self.id, &self.all);
@@ -277,8 +277,8 @@ impl Player {
     }
 }
 
-fn player_of(alloc: Global, line: &ClientLine) -> Result<Player, AllocError> {
-    Ok(Player {
+fn player_of(alloc: Global, line: &ClientLine) -> Result<PlainPlayer, AllocError> {
+    Ok(PlainPlayer {
         id: uuid_text(alloc, line.id)?,
         last: 0,
         tickets: Tickets::new(alloc),
@@ -287,7 +287,7 @@ fn player_of(alloc: Global, line: &ClientLine) -> Result<Player, AllocError> {
     })
 }
 
-fn players_of(alloc: Global, lines: &[ClientLine]) -> Result<Vec<Player>, AllocError> {
+fn players_of(alloc: Global, lines: &[ClientLine]) -> Result<Vec<PlainPlayer>, AllocError> {
     let mut players = Vec::new(alloc);
     for line in lines {
         players.push(player_of(alloc, line)?)?;
@@ -307,8 +307,8 @@ fn say_asked(plain: &Plain, query: &Query, out: &mut Said) {
 fn does<R>(
     it: &Turn<'_, R>,
     plain: &mut Plain,
-    players: &mut [Player],
-    entry: &Entry<'_>,
+    players: &mut [PlainPlayer],
+    entry: &SheetLine<'_>,
     out: &mut Said,
 ) {
     match (entry.row.deed, entry.asked) {
@@ -322,11 +322,11 @@ fn does<R>(
 }
 
 fn play_entry<R>(
-    host: &Host<'_, R>,
+    host: &TrialHost<'_, R>,
     plain: &mut Plain,
-    players: &mut [Player],
-    entry: &Entry<'_>,
-    tally: &mut Tally<'_>,
+    players: &mut [PlainPlayer],
+    entry: &SheetLine<'_>,
+    tally: &mut TrialTally<'_>,
 ) -> Result<(), Failed> {
     let mut out = Said::nothing(host.rt.alloc());
     does(&host.turn(entry.is_chosen), plain, players, entry, &mut out);
@@ -334,11 +334,11 @@ fn play_entry<R>(
 }
 
 fn play_entries<R>(
-    host: &Host<'_, R>,
+    host: &TrialHost<'_, R>,
     plain: &mut Plain,
-    players: &mut [Player],
-    entries: &[Entry<'_>],
-    tally: &mut Tally<'_>,
+    players: &mut [PlainPlayer],
+    entries: &[SheetLine<'_>],
+    tally: &mut TrialTally<'_>,
 ) -> Result<(), Failed> {
     for entry in entries {
         if !entry.rests() {
@@ -349,10 +349,10 @@ fn play_entries<R>(
 }
 
 fn play_part<R>(
-    host: &Host<'_, R>,
+    host: &TrialHost<'_, R>,
     trial: &Trial<'_>,
-    entries: &[Entry<'_>],
-    tally: &mut Tally<'_>,
+    entries: &[SheetLine<'_>],
+    tally: &mut TrialTally<'_>,
 ) -> Result<(), Failed> {
     let mut plain = plain_of(host.rt.alloc(), trial)?;
     play_in(host, trial, &mut plain, entries, tally)
@@ -368,11 +368,11 @@ fn plain_of(alloc: Global, trial: &Trial<'_>) -> Result<Plain, Refusal> {
 }
 
 fn play_in<R>(
-    host: &Host<'_, R>,
+    host: &TrialHost<'_, R>,
     trial: &Trial<'_>,
     plain: &mut Plain,
-    entries: &[Entry<'_>],
-    tally: &mut Tally<'_>,
+    entries: &[SheetLine<'_>],
+    tally: &mut TrialTally<'_>,
 ) -> Result<(), Failed> {
     let mut players = players_of(host.rt.alloc(), &trial.header.clients)?;
     play_entries(host, plain, &mut players, entries, tally)
@@ -380,10 +380,10 @@ fn play_in<R>(
 
 /// Plays a trial: whole, or the part alone with the chosen line.
 pub(crate) fn play<R>(
-    host: &Host<'_, R>,
+    host: &TrialHost<'_, R>,
     trial: Trial<'_>,
     chosen: Option<usize>,
-    tally: &mut Tally<'_>,
+    tally: &mut TrialTally<'_>,
 ) -> Result<(), Failed> {
     let groups = trial.parts(host.rt.alloc())?;
     for group in &groups {
@@ -394,11 +394,11 @@ pub(crate) fn play<R>(
 
 /// Plays the lines of one group, where they are played.
 fn play_lines<R>(
-    host: &Host<'_, R>,
+    host: &TrialHost<'_, R>,
     trial: &Trial<'_>,
     group: (usize, usize),
     chosen: Option<usize>,
-    tally: &mut Tally<'_>,
+    tally: &mut TrialTally<'_>,
 ) -> Result<(), Failed> {
     if !is_played(group, chosen) {
         return Ok(());

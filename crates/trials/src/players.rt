@@ -8,8 +8,8 @@ use crate::counts::Counted;
 use crate::looks::{all_rows, look, say_change};
 use crate::marks::{begins, ends};
 use crate::readers::asked_by;
-use crate::replies::{Answer, Said, id_word, is_change};
-use crate::rows::{Manner, ONCE, Way};
+use crate::replies::{CallResult, Said, id_word, is_change};
+use crate::rows::{CallWay, Manner, ONCE};
 use chunk_slots::Store;
 use group_history::{Json, Refusal, Scan, Text};
 use rebase::{Call, CallReply, Client, Group, Polled, Seat, Seats, TakesRows, Watch};
@@ -21,7 +21,7 @@ use uuid::Uuid;
 
 /// A watch under its number.
 #[derive(Drop)]
-struct Numbered {
+struct NumberedWatch {
     number: usize,
     watch: Watch<ScriptMutators>,
 }
@@ -29,14 +29,14 @@ struct Numbered {
 /// A client, and what it keeps between its calls: tickets, and two watches. Another client of its ID looks at the
 /// group.
 #[derive(Drop)]
-pub(crate) struct Player<'g, S: Store<ScriptMutators>> {
+pub(crate) struct GroupPlayer<'g, S: Store<ScriptMutators>> {
     group: &'g Group<ScriptMutators, S>,
     id: Uuid,
     client: Client<ScriptMutators, S>,
     looker: Client<ScriptMutators, S>,
     tickets: Tickets,
-    first: Option<Numbered>,
-    second: Option<Numbered>,
+    first: Option<NumberedWatch>,
+    second: Option<NumberedWatch>,
     all: Scan,
     ghost client_of: { IsSeatOf group.now.group client.seat },
     ghost looker_of: { IsSeatOf group.now.group looker.seat },
@@ -120,19 +120,19 @@ impl Written {
     }
 }
 
-impl<'g, S: Store<ScriptMutators> + Drop> Player<'g, S> {
+impl<'g, S: Store<ScriptMutators> + Drop> GroupPlayer<'g, S> {
     pub(crate) fn new(
         alloc: Global,
         group: &'g Group<ScriptMutators, S>,
         id: Uuid,
         client: Client<ScriptMutators, S>,
         looker: Client<ScriptMutators, S>,
-    ) -> Result<Player<'g, S>, AllocError>
+    ) -> Result<GroupPlayer<'g, S>, AllocError>
         requires client { IsSeatOf group.now.group client.seat }
         requires looker { IsSeatOf group.now.group looker.seat }
     {
         let all = all_rows(alloc)?;
-        Ok(Player {
+        Ok(GroupPlayer {
             group,
             id,
             client,
@@ -155,8 +155,8 @@ impl<'g, S: Store<ScriptMutators> + Drop> Player<'g, S> {
         it: &Turn<'_, R>,
         command: &Command,
         body: &[u8],
-        way: Way<'_>,
-    ) -> Option<Answer> {
+        way: CallWay<'_>,
+    ) -> Option<CallResult> {
         let call = call_of(&self.tickets, command, body)?;
         begins(it.rt, it.is_marked);
         let answer = made(it.on, &mut self.client, call, way);
@@ -165,7 +165,7 @@ impl<'g, S: Store<ScriptMutators> + Drop> Player<'g, S> {
     }
 
     /// Keeps the ticket of a pull that it began.
-    fn keep(&mut self, command: &Command, answer: Answer, out: &mut Said) {
+    fn keep(&mut self, command: &Command, answer: CallResult, out: &mut Said) {
         if let (Command::Begin(number), Ok(CallReply::Ticket(ticket))) = (command, answer)
             && keep_ticket(&mut self.tickets, *number, ticket).is_err()
         {
@@ -174,7 +174,7 @@ impl<'g, S: Store<ScriptMutators> + Drop> Player<'g, S> {
     }
 
     /// Says an answer, and keeps what is to be kept of it. Whether it is one that changes the group.
-    fn take(&mut self, command: &Command, answer: Option<Answer>, out: &mut Said) -> bool {
+    fn take(&mut self, command: &Command, answer: Option<CallResult>, out: &mut Said) -> bool {
         let Some(answer) = answer else {
             out.say("no ticket");
             return false;
@@ -190,7 +190,7 @@ impl<'g, S: Store<ScriptMutators> + Drop> Player<'g, S> {
         &mut self,
         it: &Turn<'_, R>,
         command: &Command,
-        way: Way<'_>,
+        way: CallWay<'_>,
         out: &mut Said,
     ) -> bool {
         let Ok(body) = body_of(it.rt.alloc(), command, way) else {
@@ -211,12 +211,12 @@ impl<'g, S: Store<ScriptMutators> + Drop> Player<'g, S> {
     }
 
     /// A watch of a scan.
-    fn watched(&mut self, number: usize, scan: &Scan) -> Result<Numbered, AllocError>
+    fn watched(&mut self, number: usize, scan: &Scan) -> Result<NumberedWatch, AllocError>
         ensures watch { IfOk result (λ named. named.watch.book ≡ self.old.group.now.group.book) }
         ensures group { self.new.group.now ≡ self.old.group.now }
     {
         let watch = self.client.watch(scan.clone()?);
-        Ok(Numbered { number, watch })
+        Ok(NumberedWatch { number, watch })
     }
 
     /// Watches a scan. A third watch takes the second one's place.
@@ -293,7 +293,13 @@ impl<'g, S: Store<ScriptMutators> + Drop> Player<'g, S> {
     }
 
     /// Does a command that is no call, and says the reply.
-    fn does_other<R>(&mut self, it: &Turn<'_, R>, command: &Command, way: Way<'_>, out: &mut Said) {
+    fn does_other<R>(
+        &mut self,
+        it: &Turn<'_, R>,
+        command: &Command,
+        way: CallWay<'_>,
+        out: &mut Said,
+    ) {
         match command {
             Command::Learn(_) => self.learn(it, out),
             Command::Watch(number, scan) => self.watch(*number, scan, out),
@@ -314,7 +320,7 @@ impl<'g, S: Store<ScriptMutators> + Drop> Player<'g, S> {
         &mut self,
         it: &Turn<'_, R>,
         command: &Command,
-        way: Way<'_>,
+        way: CallWay<'_>,
         out: &mut Said,
     ) -> bool {
         let is_other = match command {
@@ -337,7 +343,7 @@ impl<'g, S: Store<ScriptMutators> + Drop> Player<'g, S> {
         &mut self,
         it: &Turn<'_, R>,
         command: &Command,
-        way: Way<'_>,
+        way: CallWay<'_>,
         out: &mut Said,
     ) {
         let before = self.look(it.rt.alloc());
@@ -392,7 +398,7 @@ impl<'g, S: Store<ScriptMutators> + Drop> Player<'g, S> {
         it: &Turn<'_, R>,
         commands: &[&Command],
         bodies: &[Vec<u8>],
-    ) -> Result<Vec<Answer>, AllocError> {
+    ) -> Result<Vec<CallResult>, AllocError> {
         let alloc = it.rt.alloc();
         let calls = listed_calls(alloc, &self.tickets, commands, bodies)?;
         begins(it.rt, it.is_marked);
@@ -406,8 +412,8 @@ impl<'g, S: Store<ScriptMutators> + Drop> Player<'g, S> {
         self,
         it: &Turn<'_, R>,
         spare: &mut Spare<S>,
-    ) -> Result<Player<'g, S>, Refusal> {
-        let Player {
+    ) -> Result<GroupPlayer<'g, S>, Refusal> {
+        let GroupPlayer {
             group,
             id,
             client,
@@ -420,7 +426,7 @@ impl<'g, S: Store<ScriptMutators> + Drop> Player<'g, S> {
         begins(it.rt, it.is_marked);
         let client = client_again(group, id, client, spare);
         ends(it.rt, it.is_marked);
-        Ok(Player {
+        Ok(GroupPlayer {
             group,
             id,
             client: client?,
@@ -465,7 +471,7 @@ fn client_again<S: Store<ScriptMutators> + Drop>(
     }
 }
 
-fn has_number(kept: &Option<Numbered>, number: usize) -> bool {
+fn has_number(kept: &Option<NumberedWatch>, number: usize) -> bool {
     match kept {
         Some(kept) => kept.number == number,
         None => false,
@@ -476,7 +482,7 @@ fn has_number(kept: &Option<Numbered>, number: usize) -> bool {
 fn polled_by<R, S: Store<ScriptMutators>>(
     it: &Turn<'_, R>,
     client: &mut Client<ScriptMutators, S>,
-    named: &mut Numbered,
+    named: &mut NumberedWatch,
     tries: u32,
 ) -> Result<Polled, Refusal>
     requires { named.old.watch.book ≡ client.old.seat.mark.book }
@@ -494,8 +500,8 @@ fn made<R: Wait, S: Store<ScriptMutators>>(
     on: &R,
     client: &mut Client<ScriptMutators, S>,
     call: Call<'_>,
-    way: Way<'_>,
-) -> Answer
+    way: CallWay<'_>,
+) -> CallResult
     ensures { IsSameSeat client.old.seat client.new.seat }
 {
     match (call, way.manner) {
@@ -510,7 +516,7 @@ fn made<R: Wait, S: Store<ScriptMutators>>(
 }
 
 /// Says each answer and a line feed. Whether one of them changes the group.
-fn say_answers(out: &mut Said, commands: &[&Command], answers: &[Answer]) -> bool {
+fn say_answers(out: &mut Said, commands: &[&Command], answers: &[CallResult]) -> bool {
     let mut changes = false;
     for (command, answer) in commands.iter().zip(answers) {
         out.say_answer(id_word(command), answer);
@@ -529,7 +535,7 @@ fn bodies_of(alloc: Global, commands: &[&Command]) -> Result<Vec<Vec<u8>>, Alloc
     Ok(bodies)
 }
 
-impl<S: Counted> Player<'_, S> {
+impl<S: Counted> GroupPlayer<'_, S> {
     /// How full the group is, as its looker finds it.
     pub(crate) fn says_counts(&mut self, alloc: Global, out: &mut Said) {
         S::say_counts(alloc, &mut self.looker, out);

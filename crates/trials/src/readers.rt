@@ -4,8 +4,8 @@ ghost use Rattle.commit_graph.specs.Seats.{IsSameSeat};
 use crate::calls::Turn;
 use crate::marks::{begins, ends};
 use crate::players::Written;
-use crate::replies::{Answer, Said};
-use crate::rows::{Manner, Way};
+use crate::replies::{CallResult, Said};
+use crate::rows::{CallWay, Manner};
 use chunk_slots::Store;
 use group_history::{Refusal, Scan, Text};
 use rebase::{CallReply, Client, ReadTx};
@@ -16,7 +16,7 @@ use std::slice::IterMut;
 
 /// A reader under its name.
 #[derive(Drop)]
-struct Open<'p, S: Store<ScriptMutators>> {
+struct NamedReader<'p, S: Store<ScriptMutators>> {
     name: &'p str,
     tx: ReadTx<'p, ScriptMutators, S>,
 }
@@ -25,7 +25,7 @@ struct Open<'p, S: Store<ScriptMutators>> {
 #[derive(Drop)]
 pub(crate) struct Readers<'p, S: Store<ScriptMutators>> {
     pub(crate) free: IterMut<'p, Client<ScriptMutators, S>>,
-    open: Vec<Open<'p, S>>,
+    open: Vec<NamedReader<'p, S>>,
 }
 
 impl<'p, S: Store<ScriptMutators>> Readers<'p, S> {
@@ -49,13 +49,13 @@ impl<'p, S: Store<ScriptMutators>> Readers<'p, S> {
         let read = client.read(1);
         ends(it.rt, it.is_marked);
         match read {
-            Ok(tx) => self.keep(Open { name, tx }, out),
+            Ok(tx) => self.keep(NamedReader { name, tx }, out),
             Err(refusal) => out.say_refusal(refusal),
         }
     }
 
     /// Keeps a reader that is open.
-    fn keep(&mut self, open: Open<'p, S>, out: &mut Said) {
+    fn keep(&mut self, open: NamedReader<'p, S>, out: &mut Said) {
         match self.open.push(open) {
             Ok(()) => out.say("reading"),
             Err(_) => out.cut(),
@@ -68,7 +68,7 @@ impl<'p, S: Store<ScriptMutators>> Readers<'p, S> {
         it: &Turn<'_, R>,
         name: &str,
         query: &Query,
-        way: Way<'_>,
+        way: CallWay<'_>,
         out: &mut Said,
     ) {
         match self.open.iter().find(|open| open.name == name) {
@@ -82,7 +82,7 @@ impl<'p, S: Store<ScriptMutators>> Readers<'p, S> {
         let Some(at) = self.open.iter().position(|open| open.name == name) else {
             return out.say("no reader");
         };
-        let Open { name: _, tx } = self.open.remove(at);
+        let NamedReader { name: _, tx } = self.open.remove(at);
         begins(it.rt, it.is_marked);
         tx.close();
         ends(it.rt, it.is_marked);
@@ -94,7 +94,7 @@ fn say_asked<R, S: Store<ScriptMutators>>(
     it: &Turn<'_, R>,
     tx: &ReadTx<'_, ScriptMutators, S>,
     query: &Query,
-    way: Way<'_>,
+    way: CallWay<'_>,
     out: &mut Said,
 ) {
     if let Query::Scan(scan) = query
@@ -127,7 +127,7 @@ pub(crate) fn asked_by<S: Store<ScriptMutators>>(
     client: &mut Client<ScriptMutators, S>,
     query: &Query,
     tries: u32,
-) -> Answer
+) -> CallResult
     ensures { IsSameSeat client.old.seat client.new.seat }
 {
     match query {
@@ -141,7 +141,7 @@ fn read_once<S: Store<ScriptMutators>>(
     client: &mut Client<ScriptMutators, S>,
     query: &Query,
     tries: u32,
-) -> Answer
+) -> CallResult
     ensures { IsSameSeat client.old.seat client.new.seat }
 {
     let tx = client.read(tries)?;
@@ -153,7 +153,7 @@ fn read_once<S: Store<ScriptMutators>>(
 fn pulled_value<S: Store<ScriptMutators>>(
     tx: &ReadTx<'_, ScriptMutators, S>,
     key: &Text,
-) -> Answer {
+) -> CallResult {
     let mut pulled = tx.pulled()?;
     Ok(CallReply::Value(pulled.get(key.as_str())?))
 }
@@ -161,12 +161,15 @@ fn pulled_value<S: Store<ScriptMutators>>(
 fn pulled_rows<S: Store<ScriptMutators>>(
     tx: &ReadTx<'_, ScriptMutators, S>,
     scan: &Scan,
-) -> Answer {
+) -> CallResult {
     let mut pulled = tx.pulled()?;
     Ok(CallReply::Rows(pulled.scan(scan)?))
 }
 
-fn asked<S: Store<ScriptMutators>>(tx: &ReadTx<'_, ScriptMutators, S>, query: &Query) -> Answer {
+fn asked<S: Store<ScriptMutators>>(
+    tx: &ReadTx<'_, ScriptMutators, S>,
+    query: &Query,
+) -> CallResult {
     match query {
         Query::Get(key) => tx.get(key.as_str()).map(CallReply::Value),
         Query::Scan(scan) => tx.scan(scan).map(CallReply::Rows),

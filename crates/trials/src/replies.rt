@@ -154,7 +154,7 @@ impl Said {
     }
 
     /// Says an answer; before an id stands that word.
-    pub(crate) fn say_answer(&mut self, id_word: &str, answer: &Answer) {
+    pub(crate) fn say_answer(&mut self, id_word: &str, answer: &CallResult) {
         match answer {
             Ok(reply) => self.say_reply(id_word, reply),
             Err(refusal) => self.say_refusal(*refusal),
@@ -172,7 +172,7 @@ impl Said {
 }
 
 /// What is answered to a call.
-pub(crate) type Answer = Result<CallReply, Refusal>;
+pub(crate) type CallResult = Result<CallReply, Refusal>;
 
 /// What stands before the id that a command is answered.
 pub(crate) fn id_word(command: &Command) -> &'static str {
@@ -183,7 +183,7 @@ pub(crate) fn id_word(command: &Command) -> &'static str {
 }
 
 /// Whether a call that is answered so changes the group.
-pub(crate) fn is_change(command: &Command, answer: &Answer) -> bool {
+pub(crate) fn is_change(command: &Command, answer: &CallResult) -> bool {
     match command {
         Command::Mutate(_) => answer.is_ok(),
         Command::End(..) => matches!(

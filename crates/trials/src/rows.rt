@@ -15,7 +15,7 @@ pub(crate) enum Manner {
 
 /// A call's way: how often it may try, how it is made, and the bytes of a body that is no text, in hexadecimal.
 #[derive(Clone, Copy)]
-pub(crate) struct Way<'a> {
+pub(crate) struct CallWay<'a> {
     pub(crate) tries: u32,
     pub(crate) manner: Manner,
     pub(crate) bytes: Option<&'a str>,
@@ -29,7 +29,7 @@ pub(crate) enum Deed<'a> {
     /// A new group.
     New,
     /// The command of that line of the script.
-    Call(Way<'a>),
+    Call(CallWay<'a>),
     /// The client is closed, its seat goes back, and a client of its ID takes it.
     ComeBack(&'a str),
     /// A seat is asked for.
@@ -39,7 +39,7 @@ pub(crate) enum Deed<'a> {
     /// A reader of this name is opened.
     Open(&'a str),
     /// It is asked the query of that line of the script.
-    Ask(&'a str, Way<'a>),
+    Ask(&'a str, CallWay<'a>),
     Close(&'a str),
     /// Something of no group: its name, and what it is given.
     Part(&'a str, &'a str),
@@ -59,7 +59,7 @@ pub(crate) struct Row<'a> {
 const TRIES: u32 = 1_000;
 
 /// One call, with many tries.
-pub(crate) const ONCE: Way<'static> = Way {
+pub(crate) const ONCE: CallWay<'static> = CallWay {
     tries: TRIES,
     manner: Manner::Once,
     bytes: None,
@@ -93,25 +93,25 @@ fn first_word(line: &str) -> (&str, &str) {
 }
 
 /// The way that the words before a command tell, and the command.
-fn way_of<'a>(words: &'a str) -> (Way<'a>, &'a str) {
+fn way_of<'a>(words: &'a str) -> (CallWay<'a>, &'a str) {
     let (word, rest) = first_word(words);
     match word {
         "+" => (
-            Way {
+            CallWay {
                 manner: Manner::Listed,
                 ..ONCE
             },
             rest,
         ),
         "into" => (
-            Way {
+            CallWay {
                 manner: Manner::Into,
                 ..ONCE
             },
             rest,
         ),
         "waits" => (
-            Way {
+            CallWay {
                 manner: Manner::Waits,
                 ..ONCE
             },
@@ -123,18 +123,18 @@ fn way_of<'a>(words: &'a str) -> (Way<'a>, &'a str) {
     }
 }
 
-fn tries_of<'a>(words: &'a str) -> (Way<'a>, &'a str) {
+fn tries_of<'a>(words: &'a str) -> (CallWay<'a>, &'a str) {
     let (tries, command) = first_word(words);
     let tries = tries.parse::<u32>().unwrap_or(0);
-    (Way { tries, ..ONCE }, command)
+    (CallWay { tries, ..ONCE }, command)
 }
 
 /// Of `end T BYTES` the script has `end T ` alone.
-fn bytes_of<'a>(command: &'a str) -> (Way<'a>, &'a str) {
+fn bytes_of<'a>(command: &'a str) -> (CallWay<'a>, &'a str) {
     let Some((head, bytes)) = command.rsplit_once(' ') else {
         return (ONCE, command);
     };
-    let way = Way {
+    let way = CallWay {
         bytes: Some(bytes),
         ..ONCE
     };

@@ -37,7 +37,7 @@ fn add_line(script: &mut String, row: &Row<'_>, first: &str) -> Result<(), Alloc
 
 /// A command, and the place of its client among the `client` lines.
 #[derive(Clone, Copy)]
-pub(crate) struct Asked<'a> {
+pub(crate) struct AskedCommand<'a> {
     pub(crate) place: usize,
     pub(crate) command: &'a Command,
 }
@@ -47,7 +47,7 @@ pub(crate) fn commands_of<'a>(
     alloc: Global,
     script: &'a Script,
     lines: usize,
-) -> Result<Vec<Option<Asked<'a>>>, AllocError> {
+) -> Result<Vec<Option<AskedCommand<'a>>>, AllocError> {
     let mut commands = Vec::with_capacity(alloc, lines)?;
     for _ in 0..lines {
         commands.push(None)?;
@@ -58,17 +58,17 @@ pub(crate) fn commands_of<'a>(
     Ok(commands)
 }
 
-fn set_phase<'a>(commands: &mut [Option<Asked<'a>>], phase: &'a Phase, clients: usize) {
+fn set_phase<'a>(commands: &mut [Option<AskedCommand<'a>>], phase: &'a Phase, clients: usize) {
     for place in 0..clients {
         set_lines(commands, place, phase.lines_of(place));
     }
 }
 
-fn set_lines<'a>(commands: &mut [Option<Asked<'a>>], place: usize, lines: &'a [Line]) {
+fn set_lines<'a>(commands: &mut [Option<AskedCommand<'a>>], place: usize, lines: &'a [Line]) {
     for line in lines {
         let at = line.number.saturating_sub(1) as usize;
         if at < commands.len() {
-            commands[at] = Some(Asked {
+            commands[at] = Some(AskedCommand {
                 place,
                 command: &line.command,
             });
@@ -82,14 +82,14 @@ pub(crate) struct Trial<'a> {
     pub(crate) name: &'a str,
     pub(crate) header: &'a Header,
     pub(crate) rows: &'a [Row<'a>],
-    pub(crate) commands: &'a [Option<Asked<'a>>],
+    pub(crate) commands: &'a [Option<AskedCommand<'a>>],
 }
 
 /// A line, what the script has in its place, and its number, from 1 on.
 #[derive(Clone, Copy)]
-pub(crate) struct Entry<'a> {
+pub(crate) struct SheetLine<'a> {
     pub(crate) row: Row<'a>,
-    pub(crate) asked: Option<Asked<'a>>,
+    pub(crate) asked: Option<AskedCommand<'a>>,
     pub(crate) number: usize,
     /// Whether it is the marked call that is played alone.
     pub(crate) is_chosen: bool,
@@ -111,11 +111,11 @@ impl<'a> Trial<'a> {
         alloc: Global,
         part: (usize, usize),
         chosen: Option<usize>,
-    ) -> Result<Vec<Entry<'a>>, AllocError> {
+    ) -> Result<Vec<SheetLine<'a>>, AllocError> {
         let mut entries = Vec::new(alloc);
         for at in part.0..part.1 {
             if let (Some(row), Some(asked)) = (self.rows.get(at), self.commands.get(at)) {
-                entries.push(Entry {
+                entries.push(SheetLine {
                     row: *row,
                     asked: *asked,
                     number: at.saturating_add(1),
@@ -141,7 +141,7 @@ impl<'a> Trial<'a> {
     }
 }
 
-impl Entry<'_> {
+impl SheetLine<'_> {
     /// Whether it is a call of a list.
     pub(crate) fn is_listed(&self) -> bool {
         matches!(self.row.deed, Deed::Call(way) if way.manner == Manner::Listed)

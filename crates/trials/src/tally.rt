@@ -2,13 +2,13 @@
 use crate::failed::Failed;
 use crate::replies::Said;
 use crate::rows::Row;
-use crate::sheet::Entry;
-use crate::trial::Host;
+use crate::sheet::SheetLine;
+use crate::trial::TrialHost;
 use std::io::{self, Write};
 
 /// The replies of a trial over a store.
 #[derive(Drop)]
-pub(crate) struct Tally<'a> {
+pub(crate) struct TrialTally<'a> {
     /// The trial and the store.
     pub(crate) name: &'a str,
     pub(crate) store: &'a str,
@@ -27,12 +27,12 @@ fn is_told(row: &Row<'_>, said: &[u8]) -> bool {
     }
 }
 
-impl Tally<'_> {
+impl TrialTally<'_> {
     /// Judges the reply to a line, or prints it. Nothing is judged where there is none.
     pub(crate) fn judge(
         &mut self,
         rt: &HostRuntime,
-        entry: &Entry<'_>,
+        entry: &SheetLine<'_>,
         said: &[u8],
     ) -> io::Result<()> {
         if self.shows || said.is_empty() {
@@ -75,10 +75,10 @@ fn print(rt: &HostRuntime, said: &[u8]) -> io::Result<()> {
 
 /// Judges what is said to a line, or prints it.
 pub(crate) fn judge<R>(
-    host: &Host<'_, R>,
-    entry: &Entry<'_>,
+    host: &TrialHost<'_, R>,
+    entry: &SheetLine<'_>,
     out: &Said,
-    tally: &mut Tally<'_>,
+    tally: &mut TrialTally<'_>,
 ) -> Result<(), Failed> {
     tally.shows = tally.shows || entry.is_chosen;
     Ok(tally.judge(host.rt, entry, out.whole()?)?)

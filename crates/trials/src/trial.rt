@@ -4,7 +4,7 @@ use crate::expansion::{expanded, with_replies};
 use crate::failed::Failed;
 use crate::rows::{Row, rows_of, stores_of};
 use crate::sheet::{Trial, commands_of, marked_place, script_of};
-use crate::tally::Tally;
+use crate::tally::TrialTally;
 use crate::{group, plain};
 use chunk_slots::{Append, Arena};
 use group_history::Refusal;
@@ -16,12 +16,12 @@ use std::sync::Wait;
 
 /// What a trial is played with: the runtime, and what may wait.
 #[derive(Drop)]
-pub(crate) struct Host<'a, R> {
+pub(crate) struct TrialHost<'a, R> {
     pub(crate) rt: &'a HostRuntime,
     pub(crate) on: &'a R,
 }
 
-impl<R> Host<'_, R> {
+impl<R> TrialHost<'_, R> {
     /// What a call is made with.
     pub(crate) fn turn(&self, is_marked: bool) -> Turn<'_, R> {
         Turn {
@@ -41,7 +41,7 @@ struct Chosen<'a> {
 
 /// Plays what standard input names, or else all trials.
 pub(crate) fn play_all<R: Wait + Sync>(rt: &HostRuntime, on: &R) -> Result<(), Failed> {
-    let host = Host { rt, on };
+    let host = TrialHost { rt, on };
     let mut line = String::new(rt.alloc());
     rt.read_line(&mut line)?;
     if line.is_empty() {
@@ -50,7 +50,7 @@ pub(crate) fn play_all<R: Wait + Sync>(rt: &HostRuntime, on: &R) -> Result<(), F
     play_chosen(&host, line.trim_end())
 }
 
-fn play_each<R: Wait + Sync>(host: &Host<'_, R>) -> Result<(), Failed> {
+fn play_each<R: Wait + Sync>(host: &TrialHost<'_, R>) -> Result<(), Failed> {
     let names = fs::read_to_string(host.rt, "trials")?;
     for name in names.as_str().lines() {
         play_file(host, name, None)?;
@@ -59,7 +59,7 @@ fn play_each<R: Wait + Sync>(host: &Host<'_, R>) -> Result<(), Failed> {
 }
 
 /// The line is `TRIAL STORE NUMBER`.
-fn play_chosen<R: Wait + Sync>(host: &Host<'_, R>, line: &str) -> Result<(), Failed> {
+fn play_chosen<R: Wait + Sync>(host: &TrialHost<'_, R>, line: &str) -> Result<(), Failed> {
     let (name, rest) = line.split_once(' ').unwrap_or((line, ""));
     let (store, number) = rest.split_once(' ').unwrap_or((rest, ""));
     let number = number.parse::<usize>().unwrap_or(0);
@@ -67,7 +67,7 @@ fn play_chosen<R: Wait + Sync>(host: &Host<'_, R>, line: &str) -> Result<(), Fai
 }
 
 fn play_file<R: Wait + Sync>(
-    host: &Host<'_, R>,
+    host: &TrialHost<'_, R>,
     named: &str,
     chosen: Option<Chosen<'_>>,
 ) -> Result<(), Failed> {
@@ -94,7 +94,7 @@ fn script_trial(rt: &HostRuntime, name: &str, stores: &str) -> Result<String, Fa
 }
 
 fn play_text<R: Wait + Sync>(
-    host: &Host<'_, R>,
+    host: &TrialHost<'_, R>,
     name: &str,
     text: &str,
     chosen: Option<Chosen<'_>>,
@@ -104,7 +104,7 @@ fn play_text<R: Wait + Sync>(
 }
 
 fn play_rows<R: Wait + Sync>(
-    host: &Host<'_, R>,
+    host: &TrialHost<'_, R>,
     name: &str,
     stores: &str,
     rows: &[Row<'_>],
@@ -137,7 +137,7 @@ fn script_read(rt: &HostRuntime, name: &str, rows: &[Row<'_>]) -> Result<Script,
 }
 
 fn play_one<R: Wait + Sync>(
-    host: &Host<'_, R>,
+    host: &TrialHost<'_, R>,
     trial: Trial<'_>,
     chosen: Chosen<'_>,
 ) -> Result<(), Failed> {
@@ -148,7 +148,7 @@ fn play_one<R: Wait + Sync>(
 }
 
 fn play_stores<R: Wait + Sync>(
-    host: &Host<'_, R>,
+    host: &TrialHost<'_, R>,
     trial: Trial<'_>,
     stores: &str,
 ) -> Result<(), Failed> {
@@ -159,12 +159,12 @@ fn play_stores<R: Wait + Sync>(
 }
 
 fn play_over<R: Wait + Sync>(
-    host: &Host<'_, R>,
+    host: &TrialHost<'_, R>,
     trial: Trial<'_>,
     store: &str,
     chosen: Option<usize>,
 ) -> Result<(), Failed> {
-    let mut tally = Tally {
+    let mut tally = TrialTally {
         name: trial.name,
         store,
         told: 0,
@@ -176,10 +176,10 @@ fn play_over<R: Wait + Sync>(
 }
 
 fn play_in_store<R: Wait + Sync>(
-    host: &Host<'_, R>,
+    host: &TrialHost<'_, R>,
     trial: Trial<'_>,
     chosen: Option<usize>,
-    tally: &mut Tally<'_>,
+    tally: &mut TrialTally<'_>,
 ) -> Result<(), Failed> {
     match tally.store {
         "arena" => group::play::<R, Arena<ScriptMutators>>(host, trial, chosen, (), tally),

@@ -13,8 +13,8 @@ abbrev pub Knows : Book → List Entry → Known → Type 0
 Knows book log mark = (mark.book ≡ book) × (mark.log ≡ log)
 
 -- the seat is of this table, with no pin and no taken slot
-abbrev pub IsReady : ClaimsId → Seated → Type 0
-IsReady claims s = (s.table ≡ claims) × IsIdle s.view
+abbrev pub IsSeatReady : ClaimsId → Seated → Type 0
+IsSeatReady claims s = (s.table ≡ claims) × IsIdle s.view
 
 -- the seat is of this table, with no pin, and has taken these two slots of it alone; it did nothing else to slots
 abbrev pub HasBoth : ClaimsId → ℕ → ℕ → Seated → Type 0

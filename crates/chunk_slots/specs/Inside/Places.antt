@@ -16,5 +16,5 @@ abbrev pub HasPlaces : ClaimsId → Room → Type 0
 HasPlaces claims room = (room.slots ≡ claims.sizes.slots) × (claims.sizes.slots ≤ max_slots)
 
 -- the slots that the seat has taken are of its table
-abbrev pub IsWithin : Seated → Type 0
-IsWithin s = (s.view.sizes ≡ s.table.sizes) × ((slot : ℕ) → In s.view.taken slot → slot < s.table.sizes.slots)
+abbrev pub IsWithinTable : Seated → Type 0
+IsWithinTable s = (s.view.sizes ≡ s.table.sizes) × ((slot : ℕ) → In s.view.taken slot → slot < s.table.sizes.slots)

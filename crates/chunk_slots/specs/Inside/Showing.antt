@@ -8,19 +8,19 @@ use Rattle.chunk_slots.specs.declared.shown.Holds.{Holds}
 use Rattle.chunk_slots.specs.declared.shown.Holds.TheVariants.{Claimed, Lent}
 
 -- what stands for nothing
-abbrev pub nothing : Content
-nothing = record {
+abbrev pub no_content : Content
+no_content = record {
   stamp = 0;
   node = node.Chunk (Leaf []);
   mark = record { book = record { number = 0; log_name = 0; cells_name = 0 }; log = []; seat = None };
 }
 
 abbrev pub filled : Option Content → Content
-filled None = nothing
+filled None = no_content
 filled (Some c) = c
 
 abbrev pub claimed : Option (Option Content) → Content
-claimed None = nothing
+claimed None = no_content
 claimed (Some v) = filled v
 
 -- the content of the slot that is claimed, or that is lent

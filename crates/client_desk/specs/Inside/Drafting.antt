@@ -3,5 +3,5 @@ use Rattle.std.specs.Prelude.{◌≡◌, ◌⊎◌}
 use Rattle.client_desk.specs.Told.{Told, dry}
 
 -- this, or that memory was refused
-abbrev pub MayTell : Told → Told → Type 0
-MayTell this t = (t ≡ dry) ⊎ (t ≡ this)
+abbrev pub IsThisOrDry : Told → Told → Type 0
+IsThisOrDry this t = (t ≡ dry) ⊎ (t ≡ this)

@@ -39,9 +39,9 @@ Keeps keep (Ok ticket) t old new = KeepsOne keep ticket t old new
 Keeps keep (Err e) t old new = (t ≡ told_alone (Refused e)) × (new ≡ old)
 
 -- whether something was given up
-abbrev pub GivesUp : {X : Type 0} → Bool → ℕ → List (Option X) → List (Option X) → Type 0
-GivesUp true n old new = IsSome (kept_at old n) × (new ≡ given_up_at old n)
-GivesUp false n old new = (kept_at old n ≡ None) × (new ≡ old)
+abbrev pub GivesUpKept : {X : Type 0} → Bool → ℕ → List (Option X) → List (Option X) → Type 0
+GivesUpKept true n old new = IsSome (kept_at old n) × (new ≡ given_up_at old n)
+GivesUpKept false n old new = (kept_at old n ≡ None) × (new ≡ old)
 
 -- a watch is kept; or memory was refused
 abbrev pub KeepsWatch : Keep → Watched → Told → List (Option Watched) → List (Option Watched) → Type 0
@@ -62,5 +62,5 @@ IsPolled telling means client next watch new t = ((reply : Result Polled Refusal
     ⊎ ((t ≡ dry) × (new ≡ watch))
 
 -- each watch that is kept is of this book
-abbrev pub AreOf : Book → List (Option Watched) → Type 0
-AreOf book watches = (n : ℕ) → IfSome (kept_at watches n) (λ w. w.book ≡ book)
+abbrev pub AreFor : Book → List (Option Watched) → Type 0
+AreFor book watches = (n : ℕ) → IfSome (kept_at watches n) (λ w. w.book ≡ book)

@@ -25,28 +25,28 @@ is_pulled (call.PulledScan scan) = true
 is_pulled other = false
 
 -- one commit answers it
-abbrev pub is_query : DeskCall → Bool
-is_query (call.Get key) = true
-is_query (call.Has key) = true
-is_query (call.Scan scan) = true
-is_query call.Empty = true
-is_query call.Pending = true
-is_query call.Cookie = true
-is_query call.Closed = true
-is_query other = is_pulled other
+abbrev pub is_of_one_commit : DeskCall → Bool
+is_of_one_commit (call.Get key) = true
+is_of_one_commit (call.Has key) = true
+is_of_one_commit (call.Scan scan) = true
+is_of_one_commit call.Empty = true
+is_of_one_commit call.Pending = true
+is_of_one_commit call.Cookie = true
+is_of_one_commit call.Closed = true
+is_of_one_commit other = is_pulled other
 
 -- what it is told there
-abbrev pub query_told : Version → DeskCall → Told
-query_told v (call.Get key) = value_told (finite.get v.read key.now)
-query_told v (call.Has key) = is_told (finite.contains_key v.read key.now)
-query_told v (call.Scan scan) = rows_told (rows_of scan.now v.read)
-query_told v (call.PulledGet key) = value_told (finite.get v.state.pulled key.now)
-query_told v (call.PulledScan scan) = rows_told (rows_of scan.now v.state.pulled)
-query_told v call.Empty = is_told (length (finite.entries v.read) == 0)
-query_told v call.Pending = pending_told v.state.pending
-query_told v call.Cookie = cookie_told v.state.cookie
-query_told v call.Closed = is_told v.state.closed
-query_told v other = told_alone Nothing
+abbrev pub reading_told : Version → DeskCall → Told
+reading_told v (call.Get key) = value_told (finite.get v.read key.now)
+reading_told v (call.Has key) = is_told (finite.contains_key v.read key.now)
+reading_told v (call.Scan scan) = rows_told (rows_of scan.now v.read)
+reading_told v (call.PulledGet key) = value_told (finite.get v.state.pulled key.now)
+reading_told v (call.PulledScan scan) = rows_told (rows_of scan.now v.state.pulled)
+reading_told v call.Empty = is_told (length (finite.entries v.read) == 0)
+reading_told v call.Pending = pending_told v.state.pending
+reading_told v call.Cookie = cookie_told v.state.cookie
+reading_told v call.Closed = is_told v.state.closed
+reading_told v other = told_alone Nothing
 
 -- A client read once, and what it told is right where it read. The moment that was noted before is n, then m.
 pub record ToldBy (means : Meanings) (client next : ClientState) (n m : ℕ) (t : Told) (right : State → Told)

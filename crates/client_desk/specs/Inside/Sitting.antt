@@ -36,8 +36,8 @@ with_sitting sitting p = record p {
 }
 
 -- no change of the place asks for a run, and no reading of it is open
-abbrev pub IsCalm : PlaceState → Type 0
-IsCalm p = (p.asking ≡ None) × (p.reading ≡ None)
+abbrev pub IsAtRest : PlaceState → Type 0
+IsAtRest p = (p.asking ≡ None) × (p.reading ≡ None)
 
 -- nobody sits there, and there is no seat: who sat there was taken, and nobody was put there yet
 abbrev pub IsTakenFrom : PlaceState → Type 0
@@ -54,8 +54,8 @@ pub record IsTaken (has : Bytes → Bool) (means : Meanings) {M : Type 0} (sitti
   pub left : new ≡ record old { seat = None; client = None; asking = None; reading = None }
 
 -- the client left, and its tickets and watches are given up
-abbrev pub IsLeft : ClientState → PlaceState → PlaceState → Type 0
-IsLeft client old new = (seat : SeatState) × HasLeft client seat × (new ≡ free_place old.group seat)
+abbrev pub IsPlaceLeft : ClientState → PlaceState → PlaceState → Type 0
+IsPlaceLeft client old new = (seat : SeatState) × HasLeft client seat × (new ≡ free_place old.group seat)
 
 -- what a change came to is of this group
 abbrev pub IsStepAt : (Bytes → Bool) → Meanings → Grouped → {M S T : Type 0} → Asked M S T → Type 0

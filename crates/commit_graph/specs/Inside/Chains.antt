@@ -1,6 +1,6 @@
 -- What one commit tells of its chain, which leads from a head by the bases to a snapshot.
 use Rattle.std.specs.Prelude.{◌≡◌, ℕ, Bool, true, false, List, [], ◌∷◌, if◌then◌else◌, slice_get, Some, None, Option}
-use Rattle.std.specs.Prelude.{IsSome}
+use Rattle.std.specs.Prelude.{IsSome, nat_lt, option_map}
 use Rattle.group_history.specs.declared.nodes.Commit.{Commit}
 use Rattle.group_history.specs.declared.nodes.CommitKind.{CommitKind}
 use Rattle.group_history.specs.declared.nodes.CommitKind.TheVariants.{Snapshot, Over}
@@ -14,10 +14,11 @@ use Rattle.group_history.specs.Map.{Bytes, same_text}
 use Rattle.group_history.specs.Cookies.{Cookie}
 use Rattle.group_history.specs.Naming.{commit_content, commit_children}
 use Rattle.map_chunks.specs.Places.{AreAll}
-use Rattle.group_history.specs.State.{State, confirmed_id}
-use Rattle.group_history.specs.Spelling.{Contents, map_at, version_at}
+use Rattle.group_history.specs.State.{State, Ids, confirmed_id}
+use Rattle.group_history.specs.Spelling.{Contents, map_at, said_id, version_at}
 use Rattle.commit_graph.specs.declared.chains.Base.{Base}
 use Rattle.commit_graph.specs.declared.chains.Link.{Link}
+use Rattle.commit_graph.specs.declared.chains.SaidIds.{SaidIds}
 use Rattle.commit_graph.specs.declared.chains.Top.{Top}
 
 -- a commit lies at a stamp
@@ -72,17 +73,41 @@ abbrev pub top_of : Ref → Commit Ref → Top
 top_of at c = record { root = c.root; snapshot = snapshot_named at c.kind; closed = closes_group c.kind }
 
 -- The id that a commit alone knows of a client: a snapshot the confirmed one, a local commit its mutation's, if that is
--- the client's.
-abbrev pub id_in : Bytes → CommitChange → ℕ
-id_in client (Local x) = if same_text x.client client then x.id else 0
-id_in client Closed = 0
+-- the client's, or else the one that it tells.
+abbrev pub id_alone : Bytes → CommitChange → ℕ
+id_alone client (Local x) = if same_text x.client client then x.id else 0
+id_alone client Closed = 0
+
+abbrev pub own_or_told : Bytes → ℕ → Option Ids → ℕ
+own_or_told client own None = own
+own_or_told client own (Some ids) = if nat_lt 0 own then own else confirmed_id ids client
 
 abbrev pub id_named : Bytes → CommitKind Ref → ℕ
 id_named client (Snapshot s) = confirmed_id s.confirmed client
-id_named client (Over o) = id_in client o.step
+id_named client (Over o) = own_or_told client (id_alone client o.step) o.told
 
 abbrev pub own_id : Bytes → Commit Ref → ℕ
 own_id client c = id_named client c.kind
+
+-- where clients' ids are sought next: nowhere behind a snapshot, and nowhere behind a commit that tells all
+abbrev pub next_told : Ref → Option Ids → Option Ref
+next_told basis None = Some basis
+next_told basis (Some ids) = None
+
+-- what a commit says of clients' last ids
+abbrev pub said_named : CommitKind Ref → SaidIds
+said_named (Snapshot s) = record { said = None; told = Some s.confirmed; next = None }
+said_named (Over o) = record {
+  said = option_map said_id (added_by o.step);
+  told = o.told;
+  next = next_told o.basis o.told;
+}
+
+abbrev pub said_of : Commit Ref → SaidIds
+said_of c = said_named c.kind
+
+abbrev pub next_of : Commit Ref → Option Ref
+next_of c = (said_of c).next
 
 abbrev pub IsSnapshot : Commit Ref → Type 0
 IsSnapshot c = (s : Snapped) × (c.kind ≡ Snapshot s)
@@ -113,7 +138,7 @@ IsSnapshotAt ns k = IsSome (version_at ns k)
 
 -- The snapshot of a state lies at a stamp: it has the state's cookie and confirmed ids, and its root spells the pulled
 -- map.
-pub record IsBase (ns : Contents) (k : ℕ) (s : State) : Type 0 where
+pub record IsBasis (ns : Contents) (k : ℕ) (s : State) : Type 0 where
   pub root : ℕ
   pub content : Snapped
   pub lies : slice_get ns k ≡ Some (node.Commit (snapshot_content root content))

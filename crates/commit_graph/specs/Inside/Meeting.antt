@@ -27,8 +27,8 @@ child_for k (Leaf rows) = None
 child_for k (Inner kids) = choose k kids
 
 -- the chunk of a stamp has the key
-abbrev pub HasKey : Contents → ℕ → Bytes → Type 0
-HasKey ns at k = (s : Segment) × (segment_at ns at ≡ Some s) × Contains (keys_of s.rows) k
+abbrev pub HasKeyAt : Contents → ℕ → Bytes → Type 0
+HasKeyAt ns at k = (s : Segment) × (segment_at ns at ≡ Some s) × Contains (keys_of s.rows) k
 
 -- a chunk lies at a stamp
 abbrev pub LiesChunk : Contents → ℕ → Chunk Ref → Type 0
@@ -40,6 +40,6 @@ keys_in (Leaf rows) = keys_of rows
 keys_in (Inner kids) = keys_of kids
 
 -- the first key of these
-abbrev pub IsFirst : List Bytes → Option Bytes → Type 0
-IsFirst keys None = keys ≡ []
-IsFirst keys (Some k) = (rest : List Bytes) × (keys ≡ k ∷ rest)
+abbrev pub IsFirstKey : List Bytes → Option Bytes → Type 0
+IsFirstKey keys None = keys ≡ []
+IsFirstKey keys (Some k) = (rest : List Bytes) × (keys ≡ k ∷ rest)

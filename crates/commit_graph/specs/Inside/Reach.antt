@@ -39,14 +39,14 @@ abbrev pub AreKeyed : List (ℕ × NamedNode) → Type 0
 AreKeyed es = map (λ e. e.0) es ≡ map (λ e. stamp_in e.1) es
 
 -- one of these has the stamp
-abbrev pub HasStamp : List NamedNode → ℕ → Type 0
-HasStamp fs x = (f : NamedNode) × Contains fs f × (stamp_in f ≡ x)
+abbrev pub HasStampIn : List NamedNode → ℕ → Type 0
+HasStampIn fs x = (f : NamedNode) × Contains fs f × (stamp_in f ≡ x)
 
 -- news are olds and xs, one for each stamp
 pub record Joins (olds xs news : List NamedNode) : Type 0 where
   pub from : (f : NamedNode) → Contains news f → Contains olds f ⊎ Contains xs f
-  pub kept : (f : NamedNode) → Contains olds f → HasStamp news (stamp_in f)
-  pub added : (f : NamedNode) → Contains xs f → HasStamp news (stamp_in f)
+  pub kept : (f : NamedNode) → Contains olds f → HasStampIn news (stamp_in f)
+  pub added : (f : NamedNode) → Contains xs f → HasStampIn news (stamp_in f)
 
 -- the nodes that stand in a row
 abbrev pub row_nodes : List (Option NamedNode) → List NamedNode
@@ -75,9 +75,9 @@ pub record Walked : Type 0 where
 -- One step further xs are ahead too, but for what was met before. What is ahead has one node for each stamp.
 pub record Adds (olds : Walked) (xs : List NamedNode) (news : Walked) : Type 0 where
   pub from : (f : NamedNode) → Contains news.ahead f → Contains olds.ahead f ⊎ Contains xs f
-  pub kept : (f : NamedNode) → Contains olds.ahead f → HasStamp news.ahead (stamp_in f)
-  pub added : (f : NamedNode) → Contains xs f → HasStamp news.ahead (stamp_in f) ⊎ Contains olds.met (stamp_in f)
-  pub met : (x : ℕ) → Contains news.met x → HasStamp news.ahead x ⊎ Contains olds.met x
+  pub kept : (f : NamedNode) → Contains olds.ahead f → HasStampIn news.ahead (stamp_in f)
+  pub added : (f : NamedNode) → Contains xs f → HasStampIn news.ahead (stamp_in f) ⊎ Contains olds.met (stamp_in f)
+  pub met : (x : ℕ) → Contains news.met x → HasStampIn news.ahead x ⊎ Contains olds.met x
 
 -- What is ahead stays. Some stamps that have the property are known as met.
 abbrev pub Notes : (ℕ → Type 0) → Walked → Walked → Type 0
@@ -85,6 +85,6 @@ Notes may olds news = (news.ahead ≡ olds.ahead)
     × ((x : ℕ) → Contains news.met x → Contains olds.met x ⊎ may x)
 
 -- Left has what stands in before and has no stamp of kept.
-abbrev pub Leaves : List Ref → List Ref → List Ref → Type 0
-Leaves before kept left = (r : Ref) → Contains left r ↔
+abbrev pub Omits : List Ref → List Ref → List Ref → Type 0
+Omits before kept left = (r : Ref) → Contains left r ↔
     (Contains before r × (Contains (stamps_of kept) (stamp_of r) → ⊥))

@@ -39,10 +39,10 @@ abbrev pub PassedOver : View → View → ℕ → Type 0
 PassedOver v u end = (v.epoch_loads < u.epoch_loads) × (u.loaded ≡ u.reached) × ArePinsRead u × AreShut u.taken 0 end u
 
 -- each of the slots is below the end
-abbrev pub AreBelow : ℕ → List ℕ → Type 0
-AreBelow end slots = All (λ i. i < end) slots
+abbrev pub AreLower : ℕ → List ℕ → Type 0
+AreLower end slots = All (λ i. i < end) slots
 
 -- Where the slots were below an end, and the nodes lay below it, so are those that are left, and so do the nodes then.
 abbrev pub StayBelow : List ℕ → List Ref → List ℕ → List Ref → Type 0
-StayBelow slots refs left more = (end : ℕ) → AreBelow end slots → LieBelow end refs
-    → AreBelow end left × LieBelow end more
+StayBelow slots refs left more = (end : ℕ) → AreLower end slots → LieBelow end refs
+    → AreLower end left × LieBelow end more

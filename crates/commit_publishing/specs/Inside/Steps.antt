@@ -12,14 +12,14 @@ use Rattle.commit_graph.specs.Seats.{StaysHeld}
 use Rattle.commit_publishing.specs.Stamped.{drawn_as}
 
 -- the seat went from v to u, knows no less of the epoch, and a pin that was held is held still
-pub record Steps (v u : View) : Type 0 where
+pub record StepsOn (v u : View) : Type 0 where
   pub loads : v.epoch_loads ≤ u.epoch_loads
   pub reached : v.reached ≤ u.reached
   pub held : StaysHeld v u
 
 -- why a node gets no place, for which a slot was taken
-abbrev pub MayRefuse : Type 0 → Refusal → Type 0
-MayRefuse reused e = (e ≡ refusal.NoMemory) ⊎ ((reused × (e ≡ refusal.Busy)) ⊎ ((reused → ⊥) × (e ≡ refusal.Full)))
+abbrev pub MayRefusePlace : Type 0 → Refusal → Type 0
+MayRefusePlace reused e = (e ≡ refusal.NoMemory) ⊎ ((reused × (e ≡ refusal.Busy)) ⊎ ((reused → ⊥) × (e ≡ refusal.Full)))
 
 -- in contents that begin so, the nodes have the stamps from `first` on
 abbrev pub AreDrawn : ℕ → ℕ → List (Node Ref) → Contents → Type 0

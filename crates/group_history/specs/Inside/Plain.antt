@@ -7,6 +7,6 @@ use Rattle.group_history.specs.State.{Ids, replayed}
 use Rattle.group_history.specs.Ids.{IdsFollow}
 
 -- its view is the replay, and its ids follow
-pub record IsKept (means : Meanings) (view pulled : Entries) (confirmed : Ids) (pending : List Mutation) : Type 0 where
+pub record IsSound (means : Meanings) (view pulled : Entries) (confirmed : Ids) (pending : List Mutation) : Type 0 where
   pub replay : view ≡ replayed means pulled pending
   pub ids : IdsFollow confirmed pending

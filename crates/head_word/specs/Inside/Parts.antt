@@ -19,12 +19,12 @@ abbrev pub tally_name : List ℕ → ℕ
 tally_name names = slice_index_or names 0 0
 
 -- and the second says how many keys there are
-abbrev pub keys_of : List ℕ → ℕ
-keys_of names = slice_index_or names 1 0
+abbrev pub key_end : List ℕ → ℕ
+key_end names = slice_index_or names 1 0
 
 -- what the book keeps: a part of each tally, which has the count of what the key added
 abbrev pub kept_tallies : List ℕ → List Entry → Fml
-kept_tallies names log = roster (tally_name names) 0 (counts_from 0 (keys_of names) log)
+kept_tallies names log = roster (tally_name names) 0 (counts_from 0 (key_end names) log)
 
 -- what a seat keeps: the other part of its tally
 abbrev pub tally_owns : List ℕ → ℕ → ℕ → Fml

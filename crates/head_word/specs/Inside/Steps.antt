@@ -25,8 +25,8 @@ pub record Taken : Type 0 where
 
 -- What the step tells, by its seat's view before it, the number found, and the view after it. A view has what was seen
 -- of the book, a pen and an answer; the pens and the answer of the view before play no part.
-abbrev pub tells : (Taken → Type 0) → Step Entry → View Entry Answer → ℕ → View Entry Answer → Type 0
-tells told step (before, (pen, asked)) found (after, (left, answer)) = told (record {
+abbrev pub step_tells : (Taken → Type 0) → Step Entry → View Entry Answer → ℕ → View Entry Answer → Type 0
+step_tells told step (before, (pen, asked)) found (after, (left, answer)) = told (record {
   ask = step.ask;
   expected = step.old;
   new = step.new;
@@ -37,26 +37,26 @@ tells told step (before, (pen, asked)) found (after, (left, answer)) = told (rec
 })
 
 -- an answer: so many entries before a step, and so many after it
-abbrev pub answer : ℕ → ℕ → Answer
-answer before after = record { before = before; after = after }
+abbrev pub tallied : ℕ → ℕ → Answer
+tallied before after = record { before = before; after = after }
 
 -- the step answered how many entries its seat had in this book, just before it, and has in the book just after it
 abbrev pub Counted : Taken → List Entry → Type 0
-Counted t log = t.answer ≡ Some (answer (count (key_of t.ask) log) (count (key_of t.ask) t.after))
+Counted t log = t.answer ≡ Some (tallied (count (key_of t.ask) log) (count (key_of t.ask) t.after))
 
 -- A look found what the word says of the book.
-pub record Looks (says : List Entry → ℕ) (means : Meanings) (t : Taken) : Type 0 where
+pub record LooksAtBook (says : List Entry → ℕ) (means : Meanings) (t : Taken) : Type 0 where
   pub opened : IsOpened means t.after
   pub word : says t.after ≡ t.found
 
 -- A seat's look did so, and counted the seat's entries.
-pub record Counts (says : List Entry → ℕ) (means : Meanings) (t : Taken) : Type 0 where
+pub record CountsEntries (says : List Entry → ℕ) (means : Meanings) (t : Taken) : Type 0 where
   pub opened : IsOpened means t.after
   pub word : says t.after ≡ t.found
   pub counted : Counted t t.after
 
 -- An exchange was won: its entry was added to a book of which the word said just what was expected.
-pub record Adds (says : List Entry → ℕ) (means : Meanings) (t : Taken) : Type 0 where
+pub record AddsEntry (says : List Entry → ℕ) (means : Meanings) (t : Taken) : Type 0 where
   pub log : List Entry
   pub seen : IsPrefix t.before log
   pub opened : IsOpened means log
@@ -72,11 +72,11 @@ pub record Misses (says : List Entry → ℕ) (t : Taken) : Type 0 where
 -- An exchange is won where it found what it expected, and else lost.
 pub record Exchanges (says : List Entry → ℕ) (means : Meanings) (t : Taken) : Type 0 where
   pub opened : IsOpened means t.after
-  pub outcome : MatchBool (t.found == t.expected) (Adds says means t) (Misses says t)
+  pub outcome : MatchBool (t.found == t.expected) (AddsEntry says means t) (Misses says t)
 
 -- The exchange that opens the book: where nothing was added by no seat before, the book is the opening's draft and the
 -- entry that was asked for.
-pub record Opens (t : Taken) : Type 0 where
+pub record OpensBook (t : Taken) : Type 0 where
   pub counts : Answer
   pub counted : t.answer ≡ Some counts
   pub opened : counts.before ≡ 0 → t.after ≡ drafted None 0 (empty_leaf ∷ opening_snapshot ∷ []) ∷ t.ask ∷ []

@@ -6,5 +6,5 @@ use Rattle.host_places.specs.Desks.{DeskState}
 use Rattle.client_desk.specs.Places.{free_place}
 
 -- one more was made, at which nobody sits yet
-abbrev pub IsAdded : Grouped → SeatState → List DeskState → List DeskState → Type 0
-IsAdded group seat old new = (desk : DeskState) × (desk.place ≡ free_place group seat) × (new ≡ old ++ desk ∷ [])
+abbrev pub IsDeskAdded : Grouped → SeatState → List DeskState → List DeskState → Type 0
+IsDeskAdded group seat old new = (desk : DeskState) × (desk.place ≡ free_place group seat) × (new ≡ old ++ desk ∷ [])

@@ -13,8 +13,8 @@ use Rattle.map_chunks.specs.declared.looks.Descent.{Descent}
 use Rattle.map_chunks.specs.declared.looks.Descent.TheVariants.{Found, Below}
 
 -- a leaf has the key's value, and an inner chunk the child to which it belongs
-abbrev pub IsStep : Chunk Ref → Bytes → Descent → Type 0
-IsStep (Leaf rows) key (Found v) = v ≡ finite.find (slice_cmp nat_cmp) key rows
-IsStep (Leaf rows) key (Below at) = ⊥
-IsStep (Inner kids) key (Found v) = length kids ≡ 0
-IsStep (Inner kids) key (Below at) = (i : ℕ) × IsPlace key (keys_of kids) i × (slice_get (values_of kids) i ≡ Some at)
+abbrev pub Descends : Chunk Ref → Bytes → Descent → Type 0
+Descends (Leaf rows) key (Found v) = v ≡ finite.find (slice_cmp nat_cmp) key rows
+Descends (Leaf rows) key (Below at) = ⊥
+Descends (Inner kids) key (Found v) = length kids ≡ 0
+Descends (Inner kids) key (Below at) = (i : ℕ) × IsPlace key (keys_of kids) i × (slice_get (values_of kids) i ≡ Some at)

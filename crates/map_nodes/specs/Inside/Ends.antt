@@ -47,9 +47,9 @@ NarrowsLater contents was deep old new = (many : ℕ) × (many + deep ≡ was)
 
 -- what a draft's own child ends in: it shows the same, is wide, and has the chunks of the child behind those with one
 -- child each
-abbrev pub IsTaken : OwnChild → Seen → Type 0
-IsTaken (Placed at) n = ⊥
-IsTaken (Own m) n = (n.pieces ≡ m.value.pieces) × IsWideChunk n
+abbrev pub IsEndTaken : OwnChild → Seen → Type 0
+IsEndTaken (Placed at) n = ⊥
+IsEndTaken (Own m) n = (n.pieces ≡ m.value.pieces) × IsWideChunk n
     × NarrowsLater [] m.value.depth n.depth (seen_levels m.value) (seen_levels n)
 
 -- the placed chunk that is all there is below a draft's chunk, if this is so, stands behind chunks with one child each
@@ -67,11 +67,11 @@ IsKidBelow (Placed at) = Unit {0}
 IsKidBelow (Own n) = IsEndBelow n.value.depth (seen_levels n.value) n.value.pieces
 
 -- a placed chunk stands behind chunks with one child each, of which the first is so deep
-abbrev pub EndsAt : Contents → ℕ → (Contents → Levels) → Ref → Type 0
-EndsAt contents depth levels at = (deep : ℕ) × (chunk_depth contents (stamp_of at) ≡ Some deep)
+abbrev pub EndsAtChunk : Contents → ℕ → (Contents → Levels) → Ref → Type 0
+EndsAtChunk contents depth levels at = (deep : ℕ) × (chunk_depth contents (stamp_of at) ≡ Some deep)
     × NarrowsLater contents depth deep levels (λ p. placed_levels p deep (stamp_of at))
 
 -- so does a placed chunk, if there is one
 abbrev pub IfEndsAt : Contents → ℕ → (Contents → Levels) → Option Ref → Type 0
 IfEndsAt contents depth levels None = Unit {0}
-IfEndsAt contents depth levels (Some at) = EndsAt contents depth levels at
+IfEndsAt contents depth levels (Some at) = EndsAtChunk contents depth levels at

@@ -20,10 +20,10 @@ use Rattle.map_nodes.specs.Inside.Counts.{HasKept}
 use Rattle.map_nodes.specs.Inside.Halves.{half_pieces, lowered, with_half, Finished, IsHalf, IsLower}
 use Rattle.map_nodes.specs.Inside.Nodes.{Kid}
 use Rattle.map_nodes.specs.Inside.Puts.{half_levels, IsHalved, IsLeafPut}
-use Rattle.map_nodes.specs.Inside.Ready.{Fits}
+use Rattle.map_nodes.specs.Inside.Ready.{Suits}
 use Rattle.map_nodes.specs.Levels.{parting, placed_levels, seen_levels, ArePut, RenewedLater}
 use Rattle.map_nodes.specs.Nodes.{Kids, kids_height, kids_marks, kids_pieces, row_pieces, sunk}
-use Rattle.map_nodes.specs.Trails.{placed_kids, IsEnd, IsTrail, trail_seen}
+use Rattle.map_nodes.specs.Trails.{placed_kids, IsTrailEnd, IsTrail, trail_seen}
 use Rattle.map_nodes.specs.declared.nodes.OwnChild.{OwnChild}
 use Rattle.map_nodes.specs.declared.nodes.OwnChild.TheVariants.{Own}
 use Rattle.map_nodes.specs.declared.nodes.putting.Half.{Half}
@@ -45,7 +45,7 @@ rows_seen keys values = record {
 
 -- a leaf's rows with a value put at a key
 abbrev pub IsPutEnd : Rows → Bytes → Bytes → End → Type 0
-IsPutEnd rows key value e = IsEnd e
+IsPutEnd rows key value e = IsTrailEnd e
     × (paired (arc_value e.keys) e.values.items ≡ put (slice_cmp nat_cmp) key value rows)
 
 -- an inner chunk copied, the place of the child to which a key belongs, and that child's first key lowered to the key
@@ -69,7 +69,7 @@ pub record IsMadeLeaf (copies : ℕ) (rows : Rows) (key value : Bytes) (n : Seen
 
 -- A chunk made of the placed one of a stamp, which is so deep and has these rows, by a put: it is as deep, and its
 -- upper half is beside it where it was split.
-pub record IsMade (contents : Contents) (places : Ref → Type 0) (copies stamp depth : ℕ) (rows : Rows)
+pub record IsBuilt (contents : Contents) (places : Ref → Type 0) (copies stamp depth : ℕ) (rows : Rows)
     (key value : Bytes) (n : Seen) (half : Option Half) : Type 0 where
   pub depth_is : n.depth ≡ depth
   pub shown_is : shown contents (n.pieces ++ half_pieces half) ≡ Some (put (slice_cmp nat_cmp) key value rows)
@@ -90,26 +90,26 @@ IsLeafEnd copies as_trail rows key u Same l = (v : Bytes) × (u ≡ Put v)
 IsLeafEnd copies as_trail rows key u (Refused code) l = u ≡ Refuse code
 IsLeafEnd copies as_trail rows key u Laid l = (v : Bytes) × (u ≡ Put v)
     × (find (slice_cmp nat_cmp) key rows ≡ Some v → ⊥) × (as_trail ≡ true) × (l.steps.items ≡ [])
-    × ((e : End) × (l.end ≡ Some e) × IsEnd e × IsMadeLeaf copies rows key v (trail_seen [] e) None)
+    × ((e : End) × (l.end ≡ Some e) × IsTrailEnd e × IsMadeLeaf copies rows key v (trail_seen [] e) None)
 IsLeafEnd copies as_trail rows key u (Grown n half) l = (v : Bytes) × (u ≡ Put v)
     × (find (slice_cmp nat_cmp) key rows ≡ Some v → ⊥)
     × IsMadeLeaf copies rows key v n.value half
 
 -- The same of the placed chunk of a stamp, which has these rows and may be so deep. The steps of new chunks are listed
 -- from the lowest to the topmost.
-abbrev pub IsReached : Contents → (Ref → Type 0) → ℕ → Bool → ℕ → Option ℕ → Rows → Bytes → Update → Reached
+abbrev pub IsChunkEnd : Contents → (Ref → Type 0) → ℕ → Bool → ℕ → Option ℕ → Rows → Bytes → Update → Reached
     → Laying → Type 0
-IsReached contents places copies as_trail stamp depth rows key u Same l = (v : Bytes) × (u ≡ Put v)
+IsChunkEnd contents places copies as_trail stamp depth rows key u Same l = (v : Bytes) × (u ≡ Put v)
     × (find (slice_cmp nat_cmp) key rows ≡ Some v)
-IsReached contents places copies as_trail stamp depth rows key u (Refused code) l = u ≡ Refuse code
-IsReached contents places copies as_trail stamp depth rows key u Laid l = (v : Bytes) × (u ≡ Put v)
+IsChunkEnd contents places copies as_trail stamp depth rows key u (Refused code) l = u ≡ Refuse code
+IsChunkEnd contents places copies as_trail stamp depth rows key u Laid l = (v : Bytes) × (u ≡ Put v)
     × (find (slice_cmp nat_cmp) key rows ≡ Some v → ⊥) × (as_trail ≡ true)
     × ((deep : ℕ) × (depth ≡ Some deep) × ((e : End) × (l.end ≡ Some e) × IsTrail (reverse l.steps.items) e
-    × IsMade contents places copies stamp deep rows key v (trail_seen (reverse l.steps.items) e) None))
-IsReached contents places copies as_trail stamp depth rows key u (Grown n half) l = (v : Bytes)
+    × IsBuilt contents places copies stamp deep rows key v (trail_seen (reverse l.steps.items) e) None))
+IsChunkEnd contents places copies as_trail stamp depth rows key u (Grown n half) l = (v : Bytes)
     × (u ≡ Put v) × (find (slice_cmp nat_cmp) key rows ≡ Some v → ⊥)
     × ((deep : ℕ) × (depth ≡ Some deep) × (deep ≤ stamp + 1)
-    × IsMade contents places copies stamp deep rows key v n.value half)
+    × IsBuilt contents places copies stamp deep rows key v n.value half)
 
 -- A STEP UP
 
@@ -140,7 +140,7 @@ pub record CanGrowOver (copies : ℕ) (kids : List (Bytes × Ref)) (key : Bytes)
   pub half_is : IsHalf (copies + 1) child.depth half
   pub fits : (lower : Option Bytes) (kid : Kid) → IsLower key (slice_index_or (keys_of kids) place []) lower
       → kid.value ≡ child
-      → Fits (child.depth + 1) place (lowered place lower (keys_of kids)) (kids_over kids place kid) half
+      → Suits (child.depth + 1) place (lowered place lower (keys_of kids)) (kids_over kids place kid) half
 
 -- An own chunk, so deep, over these placed children, with an own child in the place of one and that child's upper half
 -- behind it. Where they are 17, the upper half of the chunk has the last 9.

@@ -54,8 +54,8 @@ ChildHalvesPut contents below place old new child half = (n : Kid) × (new ≡ s
     (λ level. seen_levels n.value later level ++ half_levels half later level))
 
 -- the value at a key, of the rows that are shown
-abbrev pub value_in : Option Rows → Bytes → Option Bytes
-value_in rows key = find (slice_cmp nat_cmp) key (rows_or rows)
+abbrev pub shown_at : Option Rows → Bytes → Option Bytes
+shown_at rows key = find (slice_cmp nat_cmp) key (rows_or rows)
 
 -- where the key was there, it had another value, and the leaf has the keys that it had, and no upper half
 abbrev pub HasReplacedRow : Option Bytes → Bytes → List Bytes → List Bytes → Option Half → Type 0
@@ -80,7 +80,7 @@ pub record IsOwnPut (contents : Contents) (key value : Bytes) (rows : Option Row
     (deep : ℕ) (was now : Contents → Levels) (half : Option Half) : Type 0 where
   pub shown_is : shown contents (new ++ half_pieces half) ≡ Some (put (slice_cmp nat_cmp) key value (rows_or rows))
   pub others : ArePutAmong contents key value old (new ++ half_pieces half)
-  pub renewed : HasReplaced contents (value_in rows key) value deep was now half
+  pub renewed : HasReplaced contents (shown_at rows key) value deep was now half
 
 -- A value is put in the child at a place, which is under this first key.
 pub record IsChildPut (contents : Contents) (copies below place : ℕ) (first key value : Bytes) (rows : Option Rows)
@@ -89,4 +89,4 @@ pub record IsChildPut (contents : Contents) (copies below place : ℕ) (first ke
       (Some (put (slice_cmp nat_cmp) key value (rows_or rows)))
   pub others : ArePutAmong contents key value (child_pieces below first child)
       (done.0.value.pieces ++ half_pieces half)
-  pub renewed : ChildReplaced contents (value_in rows key) value below place old new child half
+  pub renewed : ChildReplaced contents (shown_at rows key) value below place old new child half

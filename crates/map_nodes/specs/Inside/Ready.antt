@@ -17,33 +17,33 @@ pub record HasRoom {A : Type 0} (entries : ℕ) (room : SplitBuffers A) : Type 0
   pub home : 16 ≤ entries → IsSome room.home
 
 -- what was taken for a split, if anything was
-abbrev pub Taken : Type 0
-Taken = Option (Box (SplitBuffers OwnChild) Global)
+abbrev pub TakenRoom : Type 0
+TakenRoom = Option (Box (SplitBuffers OwnChild) Global)
 
 -- room for the upper half of a chunk with so many entries was taken, where it is full
-abbrev pub HasRoomIn : ℕ → Taken → Type 0
+abbrev pub HasRoomIn : ℕ → TakenRoom → Type 0
 HasRoomIn entries None = 16 ≤ entries → ⊥
 HasRoomIn entries (Some room) = HasRoom entries room.value
 
 -- so were copies of the ninth key that there is once a key is put before the place
-abbrev pub AreNinthIn : ℕ → List Bytes → ℕ → Bytes → Taken → Type 0
+abbrev pub AreNinthIn : ℕ → List Bytes → ℕ → Bytes → TakenRoom → Type 0
 AreNinthIn copies keys place key None = Unit {0}
 AreNinthIn copies keys place key (Some room) = AreNinth copies keys place key room.value.firsts.items
 
 -- Its keys have room, and where it is full there is room for an upper half of its own, with so many copies of that
 -- half's first key.
-abbrev pub IsReady : ℕ → List Bytes → ℕ → ℕ → Bytes → Taken → Type 0
+abbrev pub IsReady : ℕ → List Bytes → ℕ → ℕ → Bytes → TakenRoom → Type 0
 IsReady copies keys free place key room = (0 < free) × AreNinthIn copies keys (place + 1) key room
     × HasRoomIn (length keys) room
 
 -- what was taken, or room for nothing
-abbrev pub IsOpened : Taken → SplitBuffers OwnChild → Type 0
-IsOpened None room = (room.spare.keys.items ≡ []) × (room.spare.entries.items ≡ [])
-IsOpened (Some taken) room = room ≡ taken.value
+abbrev pub IsRoomTaken : TakenRoom → SplitBuffers OwnChild → Type 0
+IsRoomTaken None room = (room.spare.keys.items ≡ []) × (room.spare.entries.items ≡ [])
+IsRoomTaken (Some taken) room = room ≡ taken.value
 
 -- an inner chunk, so deep, with these keys and children, in which the upper half of the child at the place fits
 -- behind it: there is a copy of the half's first key
-pub record Fits (depth place : ℕ) (keys : List Bytes) (kids : List OwnChild) (half : Option Half) : Type 0 where
+pub record Suits (depth place : ℕ) (keys : List Bytes) (kids : List OwnChild) (half : Option Half) : Type 0 where
   pub above : 0 < depth
   pub pairs : length kids ≡ length keys
   pub few : length keys ≤ 16

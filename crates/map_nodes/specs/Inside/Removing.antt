@@ -10,7 +10,7 @@ use Rattle.group_history.specs.Refs.{stamp_of}
 use Rattle.group_history.specs.Rows.{Rows, paired}
 use Rattle.group_history.specs.Spelling.{Contents}
 use Rattle.map_chunks.specs.Ends.{IsEnd}
-use Rattle.map_nodes.specs.Inside.Ends.{EndsAt, NarrowsLater}
+use Rattle.map_nodes.specs.Inside.Ends.{EndsAtChunk, NarrowsLater}
 use Rattle.map_nodes.specs.Inside.Freezing.{kids_places}
 use Rattle.map_chunks.specs.Places.{places_of}
 use Rattle.map_nodes.specs.Inside.Halves.{HasDepth}
@@ -30,7 +30,7 @@ use Rattle.map_nodes.specs.declared.nodes.removing.ChildAfter.TheVariants.{Leave
 use Rattle.map_nodes.specs.declared.nodes.removing.NewRoot.{NewRoot}
 use Rattle.map_nodes.specs.declared.nodes.removing.NewRoot.TheVariants as heir
 use Rattle.map_chunks.specs.Wide.{IsWideAt, IsWideChunk}
-use Rattle.map_nodes.specs.Removing.{without}
+use Rattle.map_nodes.specs.Removing.{without_key}
 
 -- A child with these rows, under its first key, leaves where its one row has the key. Else it stays: under its second
 -- key where its first row has the key, and under the key that it has where another row or none has it.
@@ -45,9 +45,9 @@ HasOthers Leaves entries = 1 < entries
 HasOthers (Stays first) entries = Unit {0}
 
 -- how many children there are then
-abbrev pub AreLeft : ChildAfter → ℕ → ℕ → Type 0
-AreLeft Leaves old new = new + 1 ≡ old
-AreLeft (Stays first) old new = new ≡ old
+abbrev pub AreKidsLeft : ChildAfter → ℕ → ℕ → Type 0
+AreKidsLeft Leaves old new = new + 1 ≡ old
+AreKidsLeft (Stays first) old new = new ≡ old
 
 -- whether fewer than two children stay
 abbrev pub gives_way : ChildAfter → ℕ → Bool
@@ -57,7 +57,7 @@ gives_way (Stays first) entries = false
 -- a child of this depth that shows rows in order, of which some stay
 abbrev pub CanRemove : Contents → ℕ → Bytes → OwnChild → Type 0
 CanRemove contents below key c = IsTree (child_rows contents below c) × HasDepth below c
-    × (0 < length (without key (rows_or (child_rows contents below c))))
+    × (0 < length (without_key key (rows_or (child_rows contents below c))))
 
 -- a chunk with one entry at most; so many levels below it is a leaf
 abbrev pub IsThin : ℕ → Shape → Type 0
@@ -136,16 +136,16 @@ end_places None = []
 end_places (Some at) = at ∷ []
 
 -- the first child, if there is one, is so deep, and shows rows
-abbrev pub IsFirstAt : Contents → ℕ → List OwnChild → Type 0
-IsFirstAt contents below [] = Unit {0}
-IsFirstAt contents below (c ∷ cs) = HasDepth below c × IsSome (child_rows contents below c)
+abbrev pub IsFirstShown : Contents → ℕ → List OwnChild → Type 0
+IsFirstShown contents below [] = Unit {0}
+IsFirstShown contents below (c ∷ cs) = HasDepth below c × IsSome (child_rows contents below c)
 
 -- What stands in a root's place: an empty leaf, where the root has no child left; else what its one child has behind
 -- chunks with one child each.
 abbrev pub HeirNarrows : Contents → ℕ → List OwnChild → NewRoot → Type 0
 HeirNarrows contents below [] (heir.Placed at) = ⊥
 HeirNarrows contents below [] (heir.Own n) = (n.depth ≡ 1) × (n.marks ≡ own 0 (leaf_keys []) ∷ [])
-HeirNarrows contents below (c ∷ cs) (heir.Placed at) = EndsAt contents below (child_levels below c) at
+HeirNarrows contents below (c ∷ cs) (heir.Placed at) = EndsAtChunk contents below (child_levels below c) at
 HeirNarrows contents below (c ∷ cs) (heir.Own n) = NarrowsLater contents below n.depth (child_levels below c)
     (seen_levels n)
 

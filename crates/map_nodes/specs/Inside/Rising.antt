@@ -7,7 +7,7 @@ use Rattle.map_nodes.specs.declared.nodes.putting.Half.{Half}
 use Rattle.map_nodes.specs.declared.nodes.putting.roots.Above.{Above}
 
 -- what a root above a chunk with so many entries needs, where that may be split: its first key, and room
-pub record IsTaken (entries : ℕ) (key : Bytes) (above : Above) : Type 0 where
+pub record IsAboveTaken (entries : ℕ) (key : Bytes) (above : Above) : Type 0 where
   pub first : 16 ≤ entries → above.first ≡ Some key
   pub empty : (above.spare.keys.items ≡ []) × (above.spare.entries.items ≡ [])
   pub spare : 16 ≤ entries → (17 ≤ vec_capacity above.spare.keys) × (17 ≤ vec_capacity above.spare.entries)

@@ -20,10 +20,10 @@ IsUnput makes stops found Same = (value : Bytes) × (found ≡ Some value) × ma
 IsUnput makes stops found (Refused code) = makes (Ok (Refuse code))
 
 -- what a way down from a placed chunk ended in, where nothing is put, or memory was refused behind it
-abbrev pub IsTold : Reached → PutRefused → Type 0
-IsTold r (Stopped s) = s ≡ NoMemory
-IsTold r Same = r ≡ reached.Same
-IsTold r (Refused code) = r ≡ reached.Refused code
+abbrev pub IsUnputTold : Reached → PutRefused → Type 0
+IsUnputTold r (Stopped s) = s ≡ NoMemory
+IsUnputTold r Same = r ≡ reached.Same
+IsUnputTold r (Refused code) = r ≡ reached.Refused code
 
 -- what is answered where nothing is put
 abbrev pub IsAnswer : PutRefused → Result Ran Stop → Type 0

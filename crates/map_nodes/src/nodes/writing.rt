@@ -5,11 +5,11 @@ ghost use Rattle.group_history.specs.declared.mutators.Update.{Update as Updates
 ghost use Rattle.map_chunks.specs.Places.{Grows, AreAll, places_of};
 ghost use Rattle.map_chunks.specs.Shown.{shown, IsTree};
 ghost use Rattle.map_nodes.specs.Changes.{CanMake, Makes};
-ghost use Rattle.map_nodes.specs.Inside.Puts.{value_in};
+ghost use Rattle.map_nodes.specs.Inside.Puts.{shown_at};
 ghost use Rattle.map_nodes.specs.Updating.{IsPutOr};
 
 use super::OwnNode;
-use crate::changes::Change;
+use crate::changes::ValueChange;
 use group_history::{Json, Ran, Stop, Text, Update};
 use map_chunks::Chunks;
 use std::alloc::Global;
@@ -23,17 +23,17 @@ impl OwnNode {
         alloc: Global,
         chunks: &mut C,
         key: &str,
-        change: Change<F>,
+        change: ValueChange<F>,
     ) -> Result<Ran, Stop>
         requires places { AreAll (C.places chunks.old) (places_of self.old.pieces) }
         requires tree { IsTree (shown (C.contents chunks.old) self.old.pieces) }
         requires callable { CanMake (λ f. F.IsAlwaysCallable f) change }
         ensures grown { Grows C.contents C.places chunks.old chunks.new }
-        ensures put { IfOk result (λ ran. (u : Updates) × Makes (λ f x r. F.post f x r) change (value_in
+        ensures put { IfOk result (λ ran. (u : Updates) × Makes (λ f x r. F.post f x r) change (shown_at
             (shown (C.contents chunks.old) self.old.pieces) key.now) (Ok u) × IsPutOr (C.contents chunks.old)
             (C.contents chunks.new) (C.places chunks.new) key.now self.old self.new u ran) }
         ensures err { OnErr result (self.new ≡ self.old) }
-        ensures stopped { IfErr result (λ s. (s ≡ NoMemory) ⊎ C.stops s ⊎ Makes (λ f x r. F.post f x r) change (value_in
+        ensures stopped { IfErr result (λ s. (s ≡ NoMemory) ⊎ C.stops s ⊎ Makes (λ f x r. F.post f x r) change (shown_at
             (shown (C.contents chunks.old) self.old.pieces) key.now) (Err s)) }
     {
         let key = Text::new(alloc, key)?;

@@ -6,7 +6,7 @@ ghost use Rattle.std.specs.FinMap as finite;
 ghost use Rattle.group_history.specs.declared.mutators.Stop.TheVariants.{NoMemory};
 ghost use Rattle.map_chunks.specs.Places.{Grows, AreAll, places_of};
 ghost use Rattle.map_chunks.specs.Scanning.{taken, Gave};
-ghost use Rattle.map_chunks.specs.Seeking.{is_in};
+ghost use Rattle.map_chunks.specs.Seeking.{is_key_in};
 ghost use Rattle.map_chunks.specs.Shown.{shown, IsTree, rows_or};
 
 use super::{Form, OwnRoot};
@@ -34,7 +34,8 @@ impl OwnRoot {
         requires places { AreAll (C.places chunks.old) (places_of self.now.pieces) }
         requires tree { IsTree (shown (C.contents chunks.old) self.now.pieces) }
         ensures grown { Grows C.contents C.places chunks.old chunks.new }
-        ensures has { IfOk result (λ b. b ≡ is_in (rows_or (shown (C.contents chunks.old) self.now.pieces)) key.now) }
+        ensures has { IfOk result (λ b. b ≡ is_key_in (rows_or (shown
+            (C.contents chunks.old) self.now.pieces)) key.now) }
         ensures stopped { IfErr result C.stops }
     {
         match &self.form {

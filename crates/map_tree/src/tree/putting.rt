@@ -12,11 +12,11 @@ ghost use Rattle.map_tree.specs.Trees.{tree_places, tree_map};
 use super::{Root, Tree};
 use group_history::{Json, Ran, Stop, Update};
 use map_chunks::Chunks;
-use map_nodes::{Change, OwnRoot, Updated};
+use map_nodes::{OwnRoot, Updated, ValueChange};
 use std::alloc::Global;
 
 // A change that asks nothing.
-type Constant = Change<fn(Option<Json>) -> Result<Update, Stop>>;
+type Constant = ValueChange<fn(Option<Json>) -> Result<Update, Stop>>;
 
 impl Tree {
     /// Puts a value at a key. New are only the chunks on the way to it and those that a split adds, and none where the
@@ -38,7 +38,7 @@ impl Tree {
         ensures err { OnErr result (self.new ≡ self.old) }
         ensures stopped { IfErr result (λ s. (s ≡ NoMemory) ⊎ C.stops s) }
     {
-        let change: Constant = Change::Value(value.clone()?);
+        let change: Constant = ValueChange::Value(value.clone()?);
         self.change(alloc, chunks, key, change)?;
         Ok(())
     }
@@ -63,7 +63,7 @@ impl Tree {
         ensures stopped { (m : Entries) → tree_map (C.contents chunks.old) self.old ≡ Some m → IfErr result (λ e.
             (e ≡ NoMemory) ⊎ C.stops e ⊎ F.post change (finite.get m key.now) (Err e)) }
     {
-        self.change(alloc, chunks, key, Change::Ask(change))
+        self.change(alloc, chunks, key, ValueChange::Ask(change))
     }
 
     // Puts what a change makes of the value at a key.
@@ -72,7 +72,7 @@ impl Tree {
         alloc: Global,
         chunks: &mut C,
         key: &str,
-        change: Change<F>,
+        change: ValueChange<F>,
     ) -> Result<Ran, Stop>
         requires places { AreAll (C.places chunks.old) (tree_places self.old) }
         requires map { IsSome (tree_map (C.contents chunks.old) self.old) }

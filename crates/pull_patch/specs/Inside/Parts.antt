@@ -14,8 +14,8 @@ use Rattle.pull_patch.specs.declared.operations.Edit as code
 use Rattle.pull_patch.specs.declared.operations.Edit.TheVariants as borrowed
 use Rattle.pull_patch.specs.Fields.{object_at, array_at, each, ◌>>-◌}
 use Rattle.pull_patch.specs.Operations.{Edit, put, del, clear, edits_of, operation_of}
-use Rattle.pull_patch.specs.Changes.{entries_of, change_of}
-use Rattle.pull_patch.specs.Grammar.{cookie_at}
+use Rattle.pull_patch.specs.Changes.{entries_of, confirmed_said}
+use Rattle.pull_patch.specs.Grammar.{cookie_said}
 
 -- an operation that borrows from the tree, as the grammar has it
 abbrev pub edit_view : code.Edit → Edit
@@ -31,23 +31,23 @@ edit_depth clear = 0
 
 -- what the members of an object say of ids, and what the items of an array say of the map
 unfoldable pub changes_part : Members → Result (Option (List Confirmed)) Refusal
-changes_part ms = ok_or (option_map (each change_of) (entries_of ms)) BadShape
+changes_part ms = ok_or (option_map (each confirmed_said) (entries_of ms)) BadShape
 
 unfoldable pub patch_part : Items → Result (Option (List Patch)) Refusal
 patch_part ds = ok_or (option_map (each operation_of) (edits_of ds)) BadShape
 
 -- what each of the three fields says
 unfoldable pub cookie_field : Data → Result (Option Cookie) Refusal
-cookie_field d = ok_or (option_map cookie_of (get (codes "cookie") d >>- cookie_at)) BadShape
+cookie_field d = ok_or (option_map cookie_of (get (codes "cookie") d >>- cookie_said)) BadShape
 
 unfoldable pub changes_field : Data → Result (Option (List Confirmed)) Refusal
-changes_field d = ok_or (option_map (each change_of)
+changes_field d = ok_or (option_map (each confirmed_said)
     (object_at (codes "lastMutationIDChanges") d >>- entries_of)) BadShape
 
 unfoldable pub patch_field : Data → Result (Option (List Patch)) Refusal
 patch_field d = ok_or (option_map (each operation_of) (array_at (codes "patch") d >>- edits_of)) BadShape
 
 -- the response of the three, where no number isn't whole
-abbrev pub joined : Option Cookie → Option (List Confirmed) → Option (List Patch) → Result Response Refusal
-joined c cs ops = ok_or (option_map response.Ok
+abbrev pub united : Option Cookie → Option (List Confirmed) → Option (List Patch) → Result Response Refusal
+united c cs ops = ok_or (option_map response.Ok
     (c >>- λ c. cs >>- λ cs. ops >>- λ ops. Some (record { cookie = c; changes = cs; patch = ops }))) NotWhole

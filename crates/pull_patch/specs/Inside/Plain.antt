@@ -13,9 +13,9 @@ use Rattle.group_history.specs.Map.{Bytes}
 use Rattle.group_history.specs.Pull.{AreInRange}
 use Rattle.pull_patch.specs.declared.plain.ResponseParts.{ResponseParts}
 use Rattle.pull_patch.specs.declared.plain.puts.OperationParts.{OperationParts}
-use Rattle.pull_patch.specs.Changes.{Entry, entries_of, change_of}
+use Rattle.pull_patch.specs.Changes.{Entry, entries_of, confirmed_said}
 use Rattle.pull_patch.specs.Fields.{each, ◌>>-◌}
-use Rattle.pull_patch.specs.Grammar.{cookie_at, response_of}
+use Rattle.pull_patch.specs.Grammar.{cookie_said, response_of}
 use Rattle.pull_patch.specs.Operations.{Edit, edit_of, edits_of, operation_of}
 
 -- of the tokens `old` this is read, nested at most so deep, and `new` are left
@@ -95,13 +95,13 @@ pub record ReadsPatch (old : List Token) (ps : List Patch) (new : List Token) : 
 -- ---- a response
 
 pub record IsCookie (d : Data) (c : Cookie) : Type 0 where
-  pub shape : cookie_at d ≡ Some d
+  pub shape : cookie_said d ≡ Some d
   pub says : cookie_of d ≡ Some c
 
-pub record AreChanges (d : Data) (cs : List Confirmed) : Type 0 where
+pub record AreLastIds (d : Data) (cs : List Confirmed) : Type 0 where
   pub entries : List Entry
   pub shape : (as_object d >>- entries_of) ≡ Some entries
-  pub say : each change_of entries ≡ Some cs
+  pub say : each confirmed_said entries ≡ Some cs
 
 pub record ReadsCookie (old : List Token) (c : Cookie) (new : List Token) : Type 0 where
   pub tree : Data
@@ -111,10 +111,10 @@ pub record ReadsCookie (old : List Token) (c : Cookie) (new : List Token) : Type
 pub record ReadsChanges (old : List Token) (cs : List Confirmed) (new : List Token) : Type 0 where
   pub tree : Data
   pub reads : ReadsValue 126 old tree new
-  pub are : AreChanges tree cs
+  pub are : AreLastIds tree cs
   pub in_range : AreInRange cs
 
-pub record HasCookie (ms : Members) (c : Cookie) : Type 0 where
+pub record HoldsCookie (ms : Members) (c : Cookie) : Type 0 where
   pub tree : Data
   pub at : get_member (codes "cookie") ms ≡ Some tree
   pub is : IsCookie tree c
@@ -122,7 +122,7 @@ pub record HasCookie (ms : Members) (c : Cookie) : Type 0 where
 pub record HasChanges (ms : Members) (cs : List Confirmed) : Type 0 where
   pub tree : Data
   pub at : get_member (codes "lastMutationIDChanges") ms ≡ Some tree
-  pub are : AreChanges tree cs
+  pub are : AreLastIds tree cs
   pub in_range : AreInRange cs
 
 pub record HasPatch (ms : Members) (ps : List Patch) : Type 0 where
@@ -132,7 +132,7 @@ pub record HasPatch (ms : Members) (ps : List Patch) : Type 0 where
 
 -- the parts are in the object of these members, which has no error
 pub record ArePartsOf (p : ResponseParts) (ms : Members) : Type 0 where
-  pub cookie : IfSome p.cookie (λ c. HasCookie ms c)
+  pub cookie : IfSome p.cookie (λ c. HoldsCookie ms c)
   pub changes : IfSome p.changes (λ v. HasChanges ms v.items)
   pub patch : IfSome p.patch (λ v. HasPatch ms v.items)
   pub no_error : get_member (codes "error") ms ≡ None

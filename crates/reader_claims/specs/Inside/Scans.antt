@@ -16,6 +16,6 @@ Later v u = (u ≡ record v { taken = u.taken; notes = u.notes; deeds = u.deeds;
 
 -- The last of these steps found the word w where the slot i was sought as free, and no slot was taken. Where it is the
 -- seat's own number, the slot is its own
-abbrev pub HasFound : View → ℕ → ℕ → View → Type 0
-HasFound v i w u = (m : View) × Later v m × (m.taken ≡ v.taken) × (u ≡ with_note m i 0 w)
+abbrev pub HasFoundWord : View → ℕ → ℕ → View → Type 0
+HasFoundWord v i w u = (m : View) × Later v m × (m.taken ≡ v.taken) × (u ≡ with_note m i 0 w)
     × (w ≡ slot_word (Taken m.number) → In m.taken i)

@@ -11,7 +11,7 @@ use Rattle.change_tries.specs.declared.views.Rooted.{Rooted}
 
 -- The seat is one of the group, without a taken slot. The last id is the one at the commit where it was found, and the
 -- root that was read last is that of its commit.
-pub record Keeps (reused : Type 0) (group : GroupId) (seat : SeatState) (id : Bytes) (last : ℕ) (found : Ref)
+pub record KeepsClient (reused : Type 0) (group : GroupId) (seat : SeatState) (id : Bytes) (last : ℕ) (found : Ref)
     (latest : Option Rooted) : Type 0 where
   pub home : IsSeatOf group seat
   pub none : reused → seat.view.taken ≡ []

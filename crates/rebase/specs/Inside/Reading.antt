@@ -4,6 +4,6 @@ use Rattle.head_word.specs.Marks.{Known, known}
 use Rattle.commit_graph.specs.Seats.{SeatState, is_held}
 
 -- What had been seen at its point is what the seat has seen; and where slots are used again the seat's pin is held.
-pub record IsKept (reused : Type 0) (seat : SeatState) (at : Known) : Type 0 where
+pub record IsReadingKept (reused : Type 0) (seat : SeatState) (at : Known) : Type 0 where
   pub seen : at ≡ known seat.mark.book seat.mark.log None
   pub held : reused → is_held seat.view.pin ≡ true

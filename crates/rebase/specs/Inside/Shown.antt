@@ -23,6 +23,6 @@ under_way client c a tries = record {
 }
 
 -- it is shown where a run is asked for, and else nothing
-abbrev pub IsShown : {M : Type 0} → ClientState → Change → ℕ → Progress M → UnderWay → Type 0
-IsShown client c tries (progress.Run a) asking = asking ≡ under_way client c a tries
-IsShown client c tries (progress.Ended made) asking = ⊥
+abbrev pub IsRunShown : {M : Type 0} → ClientState → Change → ℕ → Progress M → UnderWay → Type 0
+IsRunShown client c tries (progress.Run a) asking = asking ≡ under_way client c a tries
+IsRunShown client c tries (progress.Ended made) asking = ⊥

@@ -22,9 +22,9 @@ use Rattle.transactions.specs.declared.again.Rescanned.{Rescanned}
 use Rattle.transactions.specs.declared.spans.Span.{Span}
 use Rattle.rebase.specs.declared.watching.LastAnswer.{LastAnswer}
 
-abbrev pub rows_told : Option LastAnswer → Option Rows
-rows_told None = None
-rows_told (Some told) = Some told.rows
+abbrev pub rows_last_told : Option LastAnswer → Option Rows
+rows_last_told None = None
+rows_last_told (Some told) = Some told.rows
 
 -- the scan's rows of the map lie in the chunks of these stamps, its limit aside
 abbrev pub CoversMap : Contents → Scan → List ℕ → Entries → Type 0

@@ -19,13 +19,13 @@ needed code None follows = Refuse code
 needed code (Some a) follows = follows a
 
 -- what `incr` makes of the value at the key: the number there, which is raised by a number
-unfoldable pub raised : Option Bytes → ℤ → Update
-raised value by =
+unfoldable pub put_raised : Option Bytes → ℤ → Update
+put_raised value by =
     needed spec.key_not_there value (λ there.
     needed spec.other_kind (option_and_then spec.number_of (value_of there)) (λ n.
     needed spec.code_out_of_range (spec.sum_of n by) (λ sum.
     Put (signed_decimal sum))))
 
 -- what `append` and `tag` make of the value at the key: the text there, followed by another
-unfoldable pub followed : Option Bytes → Bytes → Update
-followed there added = needed spec.other_kind (spec.followed there added) Put
+unfoldable pub put_followed : Option Bytes → Bytes → Update
+put_followed there added = needed spec.other_kind (spec.followed there added) Put

@@ -36,10 +36,10 @@ Reads right (Err line.NoMemory) = ⊤
 
 -- The call's answer on a line: Ok where the line is right, and this is then said; else the line's fault. Want of
 -- memory may come in place of any answer.
-abbrev pub Follows : {X : Type 0} → Result Context ScriptFault → Context → Result X LineFault → Type 0
-Follows right c (Ok x) = right ≡ Ok c
-Follows right c (Err (line.Script f)) = right ≡ Err f
-Follows right c (Err line.NoMemory) = ⊤
+abbrev pub AgreesWith : {X : Type 0} → Result Context ScriptFault → Context → Result X LineFault → Type 0
+AgreesWith right c (Ok x) = right ≡ Ok c
+AgreesWith right c (Err (line.Script f)) = right ≡ Err f
+AgreesWith right c (Err line.NoMemory) = ⊤
 
 -- The same of a line before the first phase, where this was said before it: a faulty one, or one for which memory is
 -- refused, says nothing.
@@ -49,10 +49,10 @@ Heads right old new (Err (line.Script f)) = (right ≡ Err f) × (new ≡ old)
 Heads right old new (Err line.NoMemory) = new ≡ old
 
 -- The same of a client's line: Ok with its command. It makes no client and no line.
-abbrev pub Tells : Result (Context × Command) ScriptFault → Context → Context → Result Command LineFault → Type 0
-Tells right old new (Ok k) = (right ≡ Ok (new, k)) × (new.clients ≡ old.clients) × (new.phases ≡ old.phases)
-Tells right old new (Err (line.Script f)) = (right ≡ Err f) × (new ≡ old)
-Tells right old new (Err line.NoMemory) = new ≡ old
+abbrev pub TellsCommand : Result (Context × Command) ScriptFault → Context → Context → Result Command LineFault → Type 0
+TellsCommand right old new (Ok k) = (right ≡ Ok (new, k)) × (new.clients ≡ old.clients) × (new.phases ≡ old.phases)
+TellsCommand right old new (Err (line.Script f)) = (right ≡ Err f) × (new ≡ old)
+TellsCommand right old new (Err line.NoMemory) = new ≡ old
 
 -- The same of any line of this number: Ok with what it asks, which is said beside what is kept.
 abbrev pub Asks : ℕ → Result Context ScriptFault → Context → Context → Result LineKind LineFault → Type 0

@@ -17,11 +17,11 @@ module _ {A : Type 0} where
   names_in es = map (name_at es) (range_with_len 0 (length es))
 
   -- each number is below this one
-  abbrev pub AreBelow : ℕ → List (String A × ℕ) → Type 0
-  AreBelow n [] = Unit {0}
-  AreBelow n (e ∷ es) = (e.1 < n) × AreBelow n es
+  abbrev pub AreNumbersBelow : ℕ → List (String A × ℕ) → Type 0
+  AreNumbersBelow n [] = Unit {0}
+  AreNumbersBelow n (e ∷ es) = (e.1 < n) × AreNumbersBelow n es
 
   -- The names are numbered from 0 on: what is found for a name is its place among them.
-  pub record IsNumbered (tree : BTreeMap (String A) ℕ) : Type 0 where
-    pub below : AreBelow (length tree.entries) tree.entries
+  pub record IsNumbering (tree : BTreeMap (String A) ℕ) : Type 0 where
+    pub below : AreNumbersBelow (length tree.entries) tree.entries
     pub found : (name : Bytes) → get_by_text tree name ≡ number_among name (names_in tree.entries)

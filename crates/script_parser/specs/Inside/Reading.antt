@@ -16,12 +16,12 @@ IsBeside n old (asked.Command client line) new =
     × (client < length old.clients) × (line.number ≡ n)
 
 -- a phase is noted beside what was said, where these phases are none
-abbrev pub noted : List (List Lines) → Context → Context
-noted [] c = with_asked asked.Phase c
-noted (p ∷ ps) c = c
+abbrev pub noted_phase : List (List Lines) → Context → Context
+noted_phase [] c = with_asked asked.Phase c
+noted_phase (p ∷ ps) c = c
 
 -- What is kept once it is known what is asked: of phases only that there is one.
-abbrev pub settled : LineKind → Context → Context
-settled asked.Nothing c = c
-settled asked.Phase c = noted c.phases c
-settled (asked.Command client line) c = c
+abbrev pub kept_after : LineKind → Context → Context
+kept_after asked.Nothing c = c
+kept_after asked.Phase c = noted_phase c.phases c
+kept_after (asked.Command client line) c = c

@@ -14,7 +14,7 @@ use Rattle.script_runner.specs.Answering.{record_seen}
 -- Beside a call that began when its client knew `old` and ended when it knew `new` nobody made a change, nor before it
 -- since the other lines have seen this. So the call has one place in the record: at whatever point its reply is right
 -- (`IsPoint`), the record is that of the lines before; and behind the call it is that one and the call's own change.
-pub record IsExact (means : Meanings) (seen : Option Known) (old new : Known) : Type 0 where
+pub record IsExactCall (means : Meanings) (seen : Option Known) (old new : Known) : Type 0 where
   pub before : record_of old.log ≡ record_seen seen
   pub alone : IsAlone old new
   pub point : (change : Option Change) (log : List Entry) → IsPoint means old new change log
@@ -29,4 +29,4 @@ pub record IsExactAt (means : Meanings) (seen : Option Known) (before after : Pl
   pub new : ClientState
   pub sat : before.client ≡ Some old
   pub there : client_at after ≡ Some new
-  pub exact : IsExact means seen old.seat.mark new.seat.mark
+  pub exact : IsExactCall means seen old.seat.mark new.seat.mark

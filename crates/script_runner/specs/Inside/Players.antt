@@ -3,7 +3,7 @@ use Rattle.std.specs.Prelude.{ℕ, ◌≡◌, ◌<◌, List, length, map, slice_
 use Rattle.group_history.specs.Map.{Bytes}
 use Rattle.group_history.specs.Meaning.{Meanings}
 use Rattle.commit_graph.specs.Seats.{SeatState}
-use Rattle.head_word.specs.Books.{opening, opening_ref}
+use Rattle.head_word.specs.Books.{book_opening, opening_ref}
 use Rattle.rebase.specs.Clients.{AreNumbered, Grouped}
 use Rattle.script_runner.specs.declared.client.ScriptClient.{ScriptClient}
 use Rattle.script_runner.specs.declared.phase.ClientTurn.{ClientTurn}
@@ -36,4 +36,4 @@ AreNewIn means group count commit turns = (i : ℕ) (d : ClientTurn _) → i < l
 -- these seats are the free ones of a group that was opened for so many and whose others are taken in their order
 abbrev pub AreLeftOf : Grouped → ℕ → ℕ → List SeatState → Type 0
 AreLeftOf group count commit seats =
-    AreNumbered group.group.book (opening count (opening_ref commit)) count seats
+    AreNumbered group.group.book (book_opening count (opening_ref commit)) count seats

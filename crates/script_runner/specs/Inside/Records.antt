@@ -2,7 +2,7 @@
 use Rattle.std.specs.Prelude.{ℕ, ◌≡◌, ◌⊎◌, ◌<◌, ◌≤◌, List, [], length, slice_index_or, Option, Some, None}
 use mathlib.Core.List.{IsPrefix}
 use Rattle.head_word.specs.declared.entry.Entry.{Entry}
-use Rattle.head_word.specs.Books.{opening, opening_ref}
+use Rattle.head_word.specs.Books.{book_opening, opening_ref}
 use Rattle.head_word.specs.Marks.{own}
 use Rattle.commit_graph.specs.Seats.{IsSameSeat}
 use Rattle.rebase.specs.Clients.{ClientState}
@@ -27,7 +27,7 @@ pub record IsSeated (count commit number : ℕ) (p : PlaceState) : Type 0 where
   pub client : ClientState
   pub is : IsClientOf client p
   pub seat : client.seat.mark.seat ≡ Some number
-  pub opened : IsPrefix (opening count (opening_ref commit)) client.seat.mark.log
+  pub opened : IsPrefix (book_opening count (opening_ref commit)) client.seat.mark.log
 
 -- so do clients at all places
 abbrev pub AreSeated : ℕ → ℕ → List Player → Type 0
@@ -53,8 +53,8 @@ abbrev pub log_at : {M : Type 0} → ClientTurn M → List Entry
 log_at turn = log_of turn.client.place.client
 
 -- the client of the one turn has seen all that the client of the other one has
-abbrev pub Covers : {M : Type 0} → ClientTurn M → ClientTurn M → Type 0
-Covers turn other = IsPrefix (log_at other) (log_at turn)
+abbrev pub HasSeen : {M : Type 0} → ClientTurn M → ClientTurn M → Type 0
+HasSeen turn other = IsPrefix (log_at other) (log_at turn)
 
 -- the clients of these turns sit at their places
 abbrev pub IsSitting : {M : Type 0} → ClientTurn M → Type 0
@@ -85,5 +85,5 @@ pub record HaveReadThrough {M : Type 0} (n : ℕ) (old new : List (ClientTurn M)
 pub record AreConfirmed {M : Type 0} (n : ℕ) (other : ClientTurn M) (old new : List (ClientTurn M)) : Type 0 where
   pub count : length new ≡ length old
   pub each : (k : ℕ) (d : ClientTurn M) → k < n → k < length old
-      → HasLearnt (slice_index_or old k d) (slice_index_or new k d) × Covers (slice_index_or new k d) other
+      → HasLearnt (slice_index_or old k d) (slice_index_or new k d) × HasSeen (slice_index_or new k d) other
   pub rest : (k : ℕ) (d : ClientTurn M) → n ≤ k → k < length old → slice_index_or new k d ≡ slice_index_or old k d

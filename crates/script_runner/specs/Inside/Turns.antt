@@ -25,8 +25,8 @@ printed_text (Err e) = []
 abbrev pub IsPrinted : {M : Type 0} → ClientTurn M → Type 0
 IsPrinted turn = IsOk turn.printed
 
-abbrev pub texts_of : {M : Type 0} → List (ClientTurn M) → List Bytes
-texts_of turns = map (λ t. printed_text t.printed) turns
+abbrev pub turn_texts : {M : Type 0} → List (ClientTurn M) → List Bytes
+turn_texts turns = map (λ t. printed_text t.printed) turns
 
 -- all clients are of one group
 abbrev pub AreOf : {M : Type 0} → Grouped → List (ClientTurn M) → Type 0
@@ -42,7 +42,7 @@ StayInGroup old new = (group : Grouped) → AreOf group old → AreOf group new
 
 module _ (means : Meanings) where
   -- the printed text gained the line of output of one line
-  pub record IsTold (sights : List (Option Known)) (before : Player) (l : ℕ × Command) (old new : Bytes)
+  pub record IsLineTold (sights : List (Option Known)) (before : Player) (l : ℕ × Command) (old new : Bytes)
       (after : Player) : Type 0 where
     pub told : Bytes
     pub may : MayPrint means sights before l.1 told after
@@ -50,7 +50,7 @@ module _ (means : Meanings) where
     pub text : new ≡ old ++ line_text l.0 before.name told
 
   -- a client's part of a phase, where memory wasn't refused
-  pub record IsTurn {M : Type 0} (sights : List (Option Known)) (lines : Lines)
+  pub record IsClientTurn {M : Type 0} (sights : List (Option Known)) (lines : Lines)
       (before : ScriptClient M) (after : ClientTurn M) : Type 0 where
     pub told : IfOk after.printed (λ text. AreTold means sights (player_of before) lines text.items
         (player_of after.client))

@@ -48,7 +48,7 @@ opened_stand {picked} opened = record {
 }
 
 -- a phase has begun, and each client that was said is there
-pub record IsOpen (s : Standing) : Type 0 where
+pub record HasPhase (s : Standing) : Type 0 where
   pub begun : 0 < length s.said.phases
   pub clients : length s.players ≡ length s.said.clients
 
@@ -67,9 +67,9 @@ abbrev pub WhereWhole : Standing → Standing → Type 0 → Type 0
 WhereWhole old new P = AreSteady old.players old.seen → IsWholeAt new → P
 
 -- the client of a command is one of these
-abbrev pub IsPlaced : LineKind → List Player → Type 0
-IsPlaced (asked.Command place line) players = place < length players
-IsPlaced what players = ⊤
+abbrev pub IsPlayerThere : LineKind → List Player → Type 0
+IsPlayerThere (asked.Command place line) players = place < length players
+IsPlayerThere what players = ⊤
 
 -- the client at a place did the command of its line
 pub record HasTold (place : ℕ) (line : Line) (before : Standing) (text : Bytes) (after : Standing) : Type 0 where
@@ -110,7 +110,7 @@ IsHeadOf asked.Phase n what text = what ≡ head.Begins
 IsHeadOf (asked.Command place line) n what text = ⊥
 
 -- The next line at a place begins the first phase. It was taken, and isn't answered yet.
-pub record HasBegun (old new : ServedPlace) : Type 0 where
+pub record BeginsAt (old new : ServedPlace) : Type 0 where
   pub line : Bytes
   pub taken : HasTakenLine old.input (line ∷ []) new.input
   pub first : IsFirstPhase old.number line old.standing new.standing
@@ -118,8 +118,8 @@ pub record HasBegun (old new : ServedPlace) : Type 0 where
   pub output : new.output ≡ old.output
 
 -- a place, by its parts
-abbrev pub place_of : Standing → ℕ → Option Bytes → Option Bytes → ServedPlace
-place_of s n input output = record { standing = s; number = n; input = input; output = output }
+abbrev pub served_at : Standing → ℕ → Option Bytes → Option Bytes → ServedPlace
+served_at s n input output = record { standing = s; number = n; input = input; output = output }
 
 -- the input was at its end there, and nothing was written
 abbrev pub IsLast : ServedPlace → Option Bytes → Type 0
@@ -128,9 +128,9 @@ IsLast old output = IsAtEnd old.input × (old.output ≡ output)
 -- how a turn before the first phase left things, and the streams
 abbrev pub HasTurned : HeaderTurn → ServedPlace → Standing → Option Bytes → Option Bytes → Type 0
 HasTurned turn.Ended old s input output = IsLast old output
-HasTurned turn.Answered old s input output = Served old (place_of s (old.number + 1) input output)
+HasTurned turn.Answered old s input output = Served old (served_at s (old.number + 1) input output)
     × (s.said.phases ≡ [])
-HasTurned turn.Begins old s input output = HasBegun old (place_of s old.number input output)
+HasTurned turn.Begins old s input output = BeginsAt old (served_at s old.number input output)
 
 -- the input was served to its end
 abbrev pub IsServed : ServedPlace → Option Bytes → Type 0
@@ -139,10 +139,10 @@ IsServed old output = (last : ServedPlace) × Served old last × IsLast last out
 -- how all turns before the first phase did: it begins with the line of this number, or the input ended before it
 abbrev pub AreHeads : Option ℕ → ServedPlace → Standing → Option Bytes → Option Bytes → Type 0
 AreHeads None old s input output = IsServed old output
-AreHeads (Some n) old s input output = (mid : ServedPlace) × Served old mid × HasBegun mid (place_of s n input output)
+AreHeads (Some n) old s input output = (mid : ServedPlace) × Served old mid × BeginsAt mid (served_at s n input output)
 
 -- how a turn from the first phase on did, where there was one more line or none
 abbrev pub HasAnswered : Bool → ServedPlace → Standing → Option Bytes → Option Bytes → Type 0
 HasAnswered true old s input output =
-    WhereWhole old.standing s (Served old (place_of s (old.number + 1) input output)) × IsOpen s
+    WhereWhole old.standing s (Served old (served_at s (old.number + 1) input output)) × HasPhase s
 HasAnswered false old s input output = IsLast old output

@@ -43,12 +43,12 @@ fn numbered(alloc: Global, count: u32) -> Result<String, Refusal> {
 
 /// Counts how often a node is shown.
 #[derive(Drop)]
-pub(super) struct Counted<'a> {
+pub(super) struct CountedNodes<'a> {
     pub(super) shelf: Shelf<'a>,
     pub(super) shown: u64,
 }
 
-impl<'a> Chunks for Counted<'a> {
+impl<'a> Chunks for CountedNodes<'a> {
     type Held = Lent<'a>;
 
     ghost contents = { λ counted. map content_of counted.shelf.nodes.now };
@@ -69,7 +69,7 @@ impl<'a> Chunks for Counted<'a> {
     }
 }
 
-impl<'a> Nodes for Counted<'a> {
+impl<'a> Nodes for CountedNodes<'a> {
     type HeldCommit = LentCommit<'a>;
 
     fn show_commit(&mut self, at: Ref) -> Result<LentCommit<'a>, Stop> {
@@ -135,7 +135,7 @@ fn count_dropped(
     requires old { IsSome (version_at (map content_of nodes.now) (stamp_of old)) }
     requires new { IsSome (version_at (map content_of nodes.now) (stamp_of new)) }
 {
-    let mut counted = Counted {
+    let mut counted = CountedNodes {
         shelf: nodes.shelf(),
         shown: 0,
     };
@@ -200,7 +200,7 @@ fn with_three(alloc: Global) -> Result<(VecNodes, Ref), Refusal>
 /// How many nodes are shown until the cookie of the third local commit is known.
 fn looks_for_cookie(alloc: Global) -> Result<u64, Refusal> {
     let (nodes, head) = with_three(alloc)?;
-    let mut counted = Counted {
+    let mut counted = CountedNodes {
         shelf: nodes.shelf(),
         shown: 0,
     };

@@ -4,7 +4,7 @@ ghost use Rattle.group_history.specs.Naming.{content_of};
 ghost use Rattle.group_history.specs.Refs.{stamp_of};
 ghost use Rattle.group_history.specs.Spelling.{version_at};
 
-use super::groups::{Counted, add_rebased, pulled, with_keys};
+use super::groups::{CountedNodes, add_rebased, pulled, with_keys};
 use commit_graph::VecNodes;
 use group_history::{Json, Ref, Refusal, Scan, Start, Text};
 use std::alloc::Global;
@@ -13,15 +13,15 @@ use transactions::{ReadTx, Rescanned, Spans};
 
 /// The rows of a scan that were told last, their spans, and how many nodes were shown for them.
 #[derive(Drop)]
-struct Told {
+struct ToldRows {
     rows: Vec<(Text, Json)>,
     spans: Spans,
     shown: u64,
 }
 
 /// Nothing was told yet.
-fn untold(alloc: Global) -> Result<Told, Refusal> {
-    Ok(Told {
+fn untold(alloc: Global) -> Result<ToldRows, Refusal> {
+    Ok(ToldRows {
         rows: Vec::new(alloc),
         spans: Spans::none(alloc)?,
         shown: 0,
@@ -34,11 +34,11 @@ fn told_behind(
     nodes: &VecNodes,
     head: Ref,
     scan: &Scan,
-    before: Told,
-) -> Result<Told, Refusal>
+    before: ToldRows,
+) -> Result<ToldRows, Refusal>
     requires { IsSome (version_at (map content_of nodes.now) (stamp_of head)) }
 {
-    let counted = Counted {
+    let counted = CountedNodes {
         shelf: nodes.shelf(),
         shown: 0,
     };
@@ -46,13 +46,13 @@ fn told_behind(
         Ok(tx) => tx,
         Err((_, stop)) => return Err(Refusal::from(stop)),
     };
-    let Told {
+    let ToldRows {
         rows,
         spans: known,
         shown: _,
     } = before;
     let Rescanned { others, spans } = tx.scan_again(scan, rows.as_slice(), &known)?;
-    Ok(Told {
+    Ok(ToldRows {
         rows: others.unwrap_or(rows),
         spans,
         shown: tx.close().shown,
@@ -91,6 +91,13 @@ fn change_of(alloc: Global, key: &str) -> Result<String, Refusal> {
     )?)
 }
 
+/// A pull that removes a key.
+fn removal_of(alloc: Global, key: &str) -> Result<String, Refusal> {
+    Ok(format!(in alloc;
+        r#"{{"cookie":2,"lastMutationIDChanges":{{}},"patch":[{{"op":"del","key":"{key}"}}]}}"#
+    )?)
+}
+
 // The map has 128 chunks, on three levels; and each time the commit is shown.
 #[test]
 fn a_scan_made_again_shows_new_chunks_alone(rt: HostRuntime) -> Result<(), Refusal> {
@@ -101,17 +108,32 @@ fn a_scan_made_again_shows_new_chunks_alone(rt: HostRuntime) -> Result<(), Refus
     Ok(())
 }
 
-// The first 100 rows lie in 12 leaves, below two chunks and the root. The limit cuts the last of these leaves, so it
-// and the two chunks above it have no spans: each time they are shown, and the commit.
+// The first 100 rows lie in 12 leaves, below two chunks and the root. The limit cuts the last of these leaves, and the
+// chunk above it. Their first rows were told, and no more are wanted behind a change that leaves the keys as they are.
 #[test]
-fn a_scan_with_a_limit_shows_also_what_is_cut(rt: HostRuntime) -> Result<(), Refusal> {
-    let first = change_of(rt.alloc(), "k05")?;
-    let (shown, rows) = shown_behind(rt.alloc(), Some(100), first.as_str())?;
-    assert_eq!(rt; shown, [16, 6, 6, 4]);
+fn a_scan_with_a_limit_shows_new_chunks_alone(rt: HostRuntime) -> Result<(), Refusal> {
+    let inside = change_of(rt.alloc(), "k05")?;
+    let (shown, rows) = shown_behind(rt.alloc(), Some(100), inside.as_str())?;
+    assert_eq!(rt; shown, [16, 4, 4, 1]);
     assert_eq!(rt; rows, 100);
-    let later = change_of(rt.alloc(), "k500")?;
-    let (shown, rows) = shown_behind(rt.alloc(), Some(100), later.as_str())?;
-    assert_eq!(rt; shown, [16, 4, 4, 4]);
+    let behind = change_of(rt.alloc(), "k500")?;
+    let (shown, rows) = shown_behind(rt.alloc(), Some(100), behind.as_str())?;
+    assert_eq!(rt; shown, [16, 2, 2, 1]);
+    assert_eq!(rt; rows, 100);
+    Ok(())
+}
+
+// Where a row goes away in front of the cut, one enters that was never told. So the leaf that is cut is shown, and the
+// chunk above it.
+#[test]
+fn a_row_that_enters_at_the_limit_is_read(rt: HostRuntime) -> Result<(), Refusal> {
+    let removal = removal_of(rt.alloc(), "k05")?;
+    let (shown, rows) = shown_behind(rt.alloc(), Some(100), removal.as_str())?;
+    assert_eq!(rt; shown, [16, 6, 4, 1]);
+    assert_eq!(rt; rows, 100);
+    let addition = change_of(rt.alloc(), "k050")?;
+    let (shown, rows) = shown_behind(rt.alloc(), Some(100), addition.as_str())?;
+    assert_eq!(rt; shown, [16, 4, 6, 1]);
     assert_eq!(rt; rows, 100);
     Ok(())
 }

@@ -4,7 +4,7 @@ use counted_slot::Counted;
 use group_history::{Commit, CommitKind, Node, Ref, Refusal};
 use std::alloc::Global;
 use std::mem::size_of;
-use test_group::{Nobody, Place, next_place, opened_store, shows};
+use test_group::{Nobody, SeatPlace, next_place, opened_store, shows};
 
 const _: () = prove!(size_of::<Counted<Option<Placed<Nobody>>>>() == 72);
 
@@ -37,7 +37,7 @@ struct Opening {
     shows: [Result<bool, StoreStop>; 6],
 }
 
-fn look_around<S: Store<Nobody>>(place: &mut Place<'_, S>) -> Result<Opening, Refusal> {
+fn look_around<S: Store<Nobody>>(place: &mut SeatPlace<'_, S>) -> Result<Opening, Refusal> {
     let shared = place.shared;
     let at = shared.head.load(&mut place.seat.mark);
     let store = &shared.store;
@@ -70,7 +70,7 @@ const SHOWN_AT_FIRST: [Result<bool, StoreStop>; 6] = [
 fn may_cross<T: Send + Sync>(_value: &T) {}
 
 // Whether a copy of the mark learns what is shown.
-fn learns<S: Store<Nobody>>(place: &Place<'_, S>, at: Ref) -> bool {
+fn learns<S: Store<Nobody>>(place: &SeatPlace<'_, S>, at: Ref) -> bool {
     let shared = place.shared;
     may_cross(&shared.head);
     may_cross(&place.seat.mark);
@@ -95,7 +95,7 @@ struct Life {
     still: Result<bool, StoreStop>,
 }
 
-fn life_of<S: Store<Nobody>>(place: &mut Place<'_, S>, alloc: Global) -> Result<Life, Refusal> {
+fn life_of<S: Store<Nobody>>(place: &mut SeatPlace<'_, S>, alloc: Global) -> Result<Life, Refusal> {
     let at = place.puts(alloc)?;
     let shared = place.shared;
     let store = &shared.store;
@@ -168,7 +168,7 @@ struct Reuse {
 
 // Retires the slot under a reader: what a place there answers, and whether the reader's node is still shown.
 fn retires_under_reader<S: Store<Nobody>>(
-    place: &mut Place<'_, S>,
+    place: &mut SeatPlace<'_, S>,
     alloc: Global,
     at: Ref,
 ) -> Result<(Option<Refusal>, Result<bool, StoreStop>), Refusal> {
@@ -184,7 +184,10 @@ fn retires_under_reader<S: Store<Nobody>>(
     Ok((lost, still))
 }
 
-fn reuse_of<S: Store<Nobody>>(place: &mut Place<'_, S>, alloc: Global) -> Result<Reuse, Refusal> {
+fn reuse_of<S: Store<Nobody>>(
+    place: &mut SeatPlace<'_, S>,
+    alloc: Global,
+) -> Result<Reuse, Refusal> {
     let first = place.puts(alloc)?;
     let (lost, still) = retires_under_reader(place, alloc, first)?;
     let again = place.puts(alloc)?;

@@ -234,7 +234,7 @@ fn has<C: Chunks>(chunks: &mut C, root: Ref, key: &str) -> Result<bool, Refusal>
 
 /// The first key of a map, at which key it is changed, and the value that is put there; none where it is removed.
 #[derive(Clone, Copy)]
-struct Edit<'a> {
+struct TreeEdit<'a> {
     first: &'a str,
     key: &'a str,
     value: Option<&'a Json>,
@@ -245,7 +245,7 @@ fn changed_in<C: Chunks>(
     alloc: Global,
     chunks: &mut C,
     root: Ref,
-    edit: Edit<'_>,
+    edit: TreeEdit<'_>,
 ) -> Result<(u64, bool), Refusal>
     requires known { IsSome (map_at (C.contents chunks.old) (stamp_of root)) }
     requires place { C.places chunks.old root }
@@ -261,7 +261,7 @@ fn changed_staged<'a, C: Chunks + Copy, K: NamesContents>(
     chunks: C,
     draft: &'a Draft,
     root: Ref,
-    edit: Edit<'_>,
+    edit: TreeEdit<'_>,
 ) -> Result<(u64, bool), Refusal>
     requires known { C.contents chunks ≡ K.known }
     requires places { (at : Reference) → C.places chunks at }
@@ -285,7 +285,7 @@ fn changed(
     let nodes = VecChunks::new(alloc);
     let placed = placed(alloc, &nodes, digits, count)?;
     let shelf = placed.nodes.shelf();
-    let edit = Edit {
+    let edit = TreeEdit {
         first: first.as_str(),
         key: key.as_str(),
         value,
@@ -295,9 +295,9 @@ fn changed(
 
 /// The digits of the keys, how many there are, at which one something is changed, the value that is put there, or none
 /// where it is removed, and how many chunks are new then.
-type Change = (usize, u64, u64, Option<&'static str>, u64);
+type TreeChange = (usize, u64, u64, Option<&'static str>, u64);
 
-static CHANGES: [Change; 13] = [
+static CHANGES: [TreeChange; 13] = [
     (2, 1, 1, Some("2"), 1),
     (2, 1, 1, Some("1"), 0),
     (2, 17, 9, Some("2"), 2),
@@ -313,7 +313,7 @@ static CHANGES: [Change; 13] = [
     (2, 17, 17, None, 2),
 ];
 
-fn changed_by(alloc: Global, change: &Change) -> Result<(u64, bool), Refusal> {
+fn changed_by(alloc: Global, change: &TreeChange) -> Result<(u64, bool), Refusal> {
     let (digits, count, number, text, _) = change;
     match text {
         Some(text) => {

@@ -5,7 +5,7 @@ use group_history::Refusal;
 use script_mutators::ScriptMutators;
 use std::alloc::Global;
 use std::thread::{Threads, map_vec};
-use test_group::{A, Answer, B, Player, new_players, pulls};
+use test_group::{A, B, NumberedClient, ToldResult, new_players, pulls};
 
 // The response by which a client state is not found any more.
 const CLOSING: &str = r#"{"error":"ClientStateNotFound"}"#;
@@ -13,7 +13,7 @@ const CLOSING: &str = r#"{"error":"ClientStateNotFound"}"#;
 // More than there are other calls to be lost to.
 const TRIES: u32 = 1_000;
 
-fn closes<S: Store<ScriptMutators> + Drop>(player: Player<S>) -> Answer {
+fn closes<S: Store<ScriptMutators> + Drop>(player: NumberedClient<S>) -> ToldResult {
     let mut player = player;
     pulls(&mut player.client, CLOSING, TRIES)
 }
@@ -26,7 +26,7 @@ struct Closings {
 }
 
 // A lack of memory is no answer.
-fn count(endings: &[Answer]) -> Result<Closings, Refusal> {
+fn count(endings: &[ToldResult]) -> Result<Closings, Refusal> {
     let mut closings = Closings {
         not_found: 0,
         closed: 0,
@@ -44,7 +44,7 @@ fn count(endings: &[Answer]) -> Result<Closings, Refusal> {
 
 fn closings_of<R: Threads + Sync, S: Store<ScriptMutators> + Drop + Send>(
     rt: &R,
-    players: Vec<Player<S>>,
+    players: Vec<NumberedClient<S>>,
 ) -> Result<Closings, Refusal> {
     let endings = map_vec(rt, players, &|player| closes(player))?;
     count(&endings)

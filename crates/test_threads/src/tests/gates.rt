@@ -17,7 +17,7 @@ fn waits(word: &AtomicU64, number: u64) {
 
 // The side of a step on which the gate acts.
 #[derive(Clone, Copy, PartialEq, Eq)]
-pub(super) enum Side {
+pub(super) enum StepSide {
     Before,
     After,
 }
@@ -27,12 +27,12 @@ pub(super) enum Side {
 pub(super) struct Moment {
     pub(super) seat: usize,
     pub(super) step: StoreCall,
-    pub(super) side: Side,
+    pub(super) side: StepSide,
 }
 
 // What the threads tell each other: how far the second one may go, and how far it has come.
 #[derive(Clone, Copy)]
-pub(super) enum Word {
+pub(super) enum GateWord {
     Go,
     Done,
 }
@@ -44,7 +44,7 @@ pub(super) struct Hold {
     pub(super) moment: Moment,
     pub(super) every: u64,
     pub(super) rounds: u64,
-    pub(super) says: Word,
+    pub(super) says: GateWord,
     // How far above the round the number is that it waits for.
     pub(super) above: u64,
 }
@@ -70,17 +70,17 @@ impl<'a> Turns<'a> {
 }
 
 impl Turns<'_> {
-    pub(super) fn says(&self, word: Word, number: u64) {
+    pub(super) fn says(&self, word: GateWord, number: u64) {
         match word {
-            Word::Go => self.go.store(number, SeqCst),
-            Word::Done => self.done.store(number, SeqCst),
+            GateWord::Go => self.go.store(number, SeqCst),
+            GateWord::Done => self.done.store(number, SeqCst),
         }
     }
 
-    pub(super) fn hears(&self, word: Word, number: u64) {
+    pub(super) fn hears(&self, word: GateWord, number: u64) {
         match word {
-            Word::Go => waits(&self.go, number),
-            Word::Done => waits(&self.done, number),
+            GateWord::Go => waits(&self.go, number),
+            GateWord::Done => waits(&self.done, number),
         }
     }
 
@@ -101,14 +101,14 @@ impl Turns<'_> {
         if number % every == 0 && round <= hold.rounds {
             self.says(hold.says, round);
             let other = match hold.says {
-                Word::Go => Word::Done,
-                Word::Done => Word::Go,
+                GateWord::Go => GateWord::Done,
+                GateWord::Done => GateWord::Go,
             };
             self.hears(other, round.wrapping_add(hold.above));
         }
     }
 
-    fn reaches(&self, seat: usize, step: StoreCall, side: Side) {
+    fn reaches(&self, seat: usize, step: StoreCall, side: StepSide) {
         let moment = Moment { seat, step, side };
         for (hold, moments) in self.holds.iter().zip(self.moments.iter()) {
             self.holds_at(hold, moments, moment);
@@ -118,10 +118,10 @@ impl Turns<'_> {
 
 impl Steps for &Turns<'_> {
     fn before(&self, seat: usize, step: StoreCall) {
-        self.reaches(seat, step, Side::Before);
+        self.reaches(seat, step, StepSide::Before);
     }
 
     fn after(&self, seat: usize, step: StoreCall) {
-        self.reaches(seat, step, Side::After);
+        self.reaches(seat, step, StepSide::After);
     }
 }

@@ -13,8 +13,8 @@ use std::sync::atomic::AtomicU64;
 use std::sync::atomic::Ordering::SeqCst;
 use std::thread::{Threads, join};
 use test_group::{
-    A, Answer, B, Player, Told, answered, call_of, cookie_of, ends, gets, mutates, new_players,
-    number_in, number_of, refreshes, two_of,
+    A, B, CallTold, NumberedClient, ToldResult, answered, call_of, cookie_of, ends, gets, mutates,
+    new_players, number_in, number_of, refreshes, two_of,
 };
 
 // More than there are other calls to be lost to.
@@ -29,7 +29,7 @@ struct Pull {
 }
 
 #[derive(Clone, Copy)]
-enum Call {
+enum PlayedCall {
     // Of this mutator, with these arguments.
     Mutate(&'static str, &'static str),
     Get(&'static str),
@@ -42,31 +42,31 @@ enum Call {
     End(Pull),
 }
 
-static CALLS: [Call; 16] = [
-    Call::Mutate("incr", r#"["n",1]"#),
-    Call::Mutate("incr", r#"["n",1]"#),
-    Call::Mutate("incr", r#"["n",10]"#),
-    Call::Mutate("set", r#"["n",100]"#),
-    Call::Mutate("set", r#"["n",7]"#),
-    Call::Mutate("set", r#"["k",1]"#),
-    Call::Get("n"),
-    Call::Get("n"),
-    Call::Get("k"),
-    Call::Pending,
-    Call::Refresh,
-    Call::Refresh,
-    Call::Begin,
-    Call::End(Pull {
+static CALLS: [PlayedCall; 16] = [
+    PlayedCall::Mutate("incr", r#"["n",1]"#),
+    PlayedCall::Mutate("incr", r#"["n",1]"#),
+    PlayedCall::Mutate("incr", r#"["n",10]"#),
+    PlayedCall::Mutate("set", r#"["n",100]"#),
+    PlayedCall::Mutate("set", r#"["n",7]"#),
+    PlayedCall::Mutate("set", r#"["k",1]"#),
+    PlayedCall::Get("n"),
+    PlayedCall::Get("n"),
+    PlayedCall::Get("k"),
+    PlayedCall::Pending,
+    PlayedCall::Refresh,
+    PlayedCall::Refresh,
+    PlayedCall::Begin,
+    PlayedCall::End(Pull {
         cookie: 1,
         confirms: 0,
         n: 5,
     }),
-    Call::End(Pull {
+    PlayedCall::End(Pull {
         cookie: 2,
         confirms: 1,
         n: 20,
     }),
-    Call::End(Pull {
+    PlayedCall::End(Pull {
         cookie: 3,
         confirms: 2,
         n: 40,
@@ -75,23 +75,23 @@ static CALLS: [Call; 16] = [
 
 // A call, and what it was answered once it was made.
 #[derive(Clone, Copy)]
-struct Step {
-    call: Call,
-    answer: Option<Answer>,
+struct PlayedStep {
+    call: PlayedCall,
+    answer: Option<ToldResult>,
 }
 
-fn unmade(call: Call) -> Step {
-    Step { call, answer: None }
+fn unmade(call: PlayedCall) -> PlayedStep {
+    PlayedStep { call, answer: None }
 }
 
 // What is asked when two threads have ended.
-fn last_steps() -> [Step; 5] {
+fn last_steps() -> [PlayedStep; 5] {
     [
-        unmade(Call::Get("n")),
-        unmade(Call::Get("k")),
-        unmade(Call::Pending),
-        unmade(Call::Begin),
-        unmade(Call::Refresh),
+        unmade(PlayedCall::Get("n")),
+        unmade(PlayedCall::Get("k")),
+        unmade(PlayedCall::Pending),
+        unmade(PlayedCall::Begin),
+        unmade(PlayedCall::Refresh),
     ]
 }
 
@@ -101,19 +101,19 @@ fn body_of(alloc: Global, pull: Pull) -> Result<String, Refusal> {
         confirms,
         n,
     } = pull;
-    Ok(format!(in alloc;
-        r#"{{"cookie":{cookie},"lastMutationIDChanges":{{"{A}":{confirms}}},"patch":[{{"op":"put","key":"n","value":{n}}}]}}"#
-    )?)
+    let ids = format!(in alloc; r#"{{"{A}":{confirms}}}"#)?;
+    let patch = format!(in alloc; r#"[{{"op":"put","key":"n","value":{n}}}]"#)?;
+    Ok(format!(in alloc; r#"{{"cookie":{cookie},"lastMutationIDChanges":{ids},"patch":{patch}}}"#)?)
 }
 
 // The pulls of a client: the first one of all, and the one that it began last since.
 #[derive(Drop)]
-struct Begun<'a> {
+struct BegunTogether<'a> {
     first: &'a Ticket,
     last: Option<Ticket>,
 }
 
-impl Begun<'_> {
+impl BegunTogether<'_> {
     fn ticket(&self) -> &Ticket {
         match &self.last {
             Some(ticket) => ticket,
@@ -124,9 +124,9 @@ impl Begun<'_> {
     fn begins<S: Store<ScriptMutators>>(
         &mut self,
         client: &mut Client<ScriptMutators, S>,
-    ) -> Answer {
+    ) -> ToldResult {
         let ticket = client.begin_pull(TRIES)?;
-        let told = Told::Value(number_in(ticket.cookie.text()));
+        let told = CallTold::Value(number_in(ticket.cookie.text()));
         self.last = Some(ticket);
         Ok(told)
     }
@@ -136,7 +136,7 @@ impl Begun<'_> {
         alloc: Global,
         client: &mut Client<ScriptMutators, S>,
         pull: Pull,
-    ) -> Answer {
+    ) -> ToldResult {
         let body = body_of(alloc, pull)?;
         ends(client, self.ticket(), &body, TRIES)
     }
@@ -145,25 +145,25 @@ impl Begun<'_> {
         &mut self,
         alloc: Global,
         client: &mut Client<ScriptMutators, S>,
-        call: Call,
-    ) -> Answer {
+        call: PlayedCall,
+    ) -> ToldResult {
         match call {
-            Call::Mutate(name, args) => mutates(client, &call_of(alloc, name, args)?, TRIES),
-            Call::Get(key) => gets(client, key, TRIES),
-            Call::Pending => counts(client),
-            Call::Refresh => refreshes(client, TRIES),
-            Call::Begin => self.begins(client),
-            Call::End(pull) => self.ends(alloc, client, pull),
+            PlayedCall::Mutate(name, args) => mutates(client, &call_of(alloc, name, args)?, TRIES),
+            PlayedCall::Get(key) => gets(client, key, TRIES),
+            PlayedCall::Pending => counts(client),
+            PlayedCall::Refresh => refreshes(client, TRIES),
+            PlayedCall::Begin => self.begins(client),
+            PlayedCall::End(pull) => self.ends(alloc, client, pull),
         }
     }
 }
 
-fn count_in<S: Store<ScriptMutators>>(tx: &ReadTx<'_, ScriptMutators, S>) -> Answer {
+fn count_in<S: Store<ScriptMutators>>(tx: &ReadTx<'_, ScriptMutators, S>) -> ToldResult {
     let pending = tx.pending()?;
-    Ok(Told::Last(pending.len() as u64))
+    Ok(CallTold::Last(pending.len() as u64))
 }
 
-fn counts<S: Store<ScriptMutators>>(client: &mut Client<ScriptMutators, S>) -> Answer {
+fn counts<S: Store<ScriptMutators>>(client: &mut Client<ScriptMutators, S>) -> ToldResult {
     let tx = client.read(TRIES)?;
     let count = count_in(&tx);
     tx.close();
@@ -174,9 +174,9 @@ fn makes_all<S: Store<ScriptMutators>>(
     alloc: Global,
     client: &mut Client<ScriptMutators, S>,
     first: &Ticket,
-    steps: &mut [Step],
+    steps: &mut [PlayedStep],
 ) -> Result<(), Refusal> {
-    let mut begun = Begun { first, last: None };
+    let mut begun = BegunTogether { first, last: None };
     for step in steps.iter_mut() {
         step.answer = Some(answered(begun.makes(alloc, client, step.call))?);
     }
@@ -186,9 +186,9 @@ fn makes_all<S: Store<ScriptMutators>>(
 // The same, once the other thread has come here too.
 fn makes_beside<S: Store<ScriptMutators>>(
     alloc: Global,
-    player: &mut Player<S>,
+    player: &mut NumberedClient<S>,
     first: &Ticket,
-    steps: &mut [Step],
+    steps: &mut [PlayedStep],
     come: &AtomicU64,
 ) -> Result<(), Refusal> {
     come.fetch_add(1, SeqCst);
@@ -202,17 +202,21 @@ fn makes_beside<S: Store<ScriptMutators>>(
 
 // A client of the group of one thread, and what is to be explained of its calls.
 #[derive(Drop)]
-struct Side<'a> {
+struct PlayedSide<'a> {
     client: Text,
     last: u64,
     ticket: Cookie,
-    steps: &'a [Step],
+    steps: &'a [PlayedStep],
 }
 
-fn side_of<'a>(alloc: Global, client: &str, steps: &'a [Step]) -> Result<Side<'a>, Refusal> {
+fn side_of<'a>(
+    alloc: Global,
+    client: &str,
+    steps: &'a [PlayedStep],
+) -> Result<PlayedSide<'a>, Refusal> {
     let client = Text::new(alloc, client)?;
     let ticket = Cookie::null(alloc)?;
-    Ok(Side {
+    Ok(PlayedSide {
         client,
         last: 0,
         ticket,
@@ -249,10 +253,16 @@ fn response_of(alloc: Global, pull: Pull) -> Result<Response, Refusal> {
     Ok(Response::Ok(PullOk::new(cookie, changes, patch)))
 }
 
-type Plain = PlainGroup<ScriptMutators>;
+type PlainScripted = PlainGroup<ScriptMutators>;
 
-impl Side<'_> {
-    fn mutates(&mut self, alloc: Global, group: &mut Plain, name: &str, args: &str) -> Answer {
+impl PlayedSide<'_> {
+    fn mutates(
+        &mut self,
+        alloc: Global,
+        group: &mut PlainScripted,
+        name: &str,
+        args: &str,
+    ) -> ToldResult {
         let call = call_of(alloc, name, args)?;
         let id = group.mutate(
             &ScriptMutators,
@@ -263,38 +273,40 @@ impl Side<'_> {
             1000,
         )?;
         self.last = id;
-        Ok(Told::Id(id))
+        Ok(CallTold::Id(id))
     }
 
-    fn refreshes(&mut self, group: &Plain) -> Answer {
+    fn refreshes(&mut self, group: &PlainScripted) -> ToldResult {
         self.last = group.last(&self.client);
-        Ok(Told::Last(self.last))
+        Ok(CallTold::Last(self.last))
     }
 
-    fn begins(&mut self, group: &Plain) -> Answer {
+    fn begins(&mut self, group: &PlainScripted) -> ToldResult {
         self.ticket = group.cookie().clone()?;
-        Ok(Told::Value(number_in(self.ticket.text())))
+        Ok(CallTold::Value(number_in(self.ticket.text())))
     }
 
-    fn ends(&mut self, alloc: Global, group: &mut Plain, pull: Pull) -> Answer {
+    fn ends(&mut self, alloc: Global, group: &mut PlainScripted, pull: Pull) -> ToldResult {
         let response = response_of(alloc, pull)?;
         let ended = group.end_pull(&ScriptMutators, &self.ticket, &response)?;
-        Ok(Told::Ended(ended))
+        Ok(CallTold::Ended(ended))
     }
 
-    fn makes(&mut self, alloc: Global, group: &mut Plain, call: Call) -> Answer {
+    fn makes(&mut self, alloc: Global, group: &mut PlainScripted, call: PlayedCall) -> ToldResult {
         match call {
-            Call::Mutate(name, args) => self.mutates(alloc, group, name, args),
-            Call::Get(key) => Ok(Told::Value(number_of(group.get(&Text::new(alloc, key)?)))),
-            Call::Pending => Ok(Told::Last(group.pending().len() as u64)),
-            Call::Refresh => self.refreshes(group),
-            Call::Begin => self.begins(group),
-            Call::End(pull) => self.ends(alloc, group, pull),
+            PlayedCall::Mutate(name, args) => self.mutates(alloc, group, name, args),
+            PlayedCall::Get(key) => Ok(CallTold::Value(number_of(group.get(&Text::new(
+                alloc, key,
+            )?)))),
+            PlayedCall::Pending => Ok(CallTold::Last(group.pending().len() as u64)),
+            PlayedCall::Refresh => self.refreshes(group),
+            PlayedCall::Begin => self.begins(group),
+            PlayedCall::End(pull) => self.ends(alloc, group, pull),
         }
     }
 
     // Makes the next call. False where it is answered otherwise, or where there is none.
-    fn fits(&mut self, alloc: Global, group: &mut Plain) -> Result<bool, Refusal> {
+    fn fits(&mut self, alloc: Global, group: &mut PlainScripted) -> Result<bool, Refusal> {
         let Some((step, rest)) = self.steps.split_first() else {
             return Ok(false);
         };
@@ -306,9 +318,9 @@ impl Side<'_> {
 // What two clients made at once, of which the first one was A, and what A made then.
 #[derive(Clone, Copy)]
 struct Game {
-    by_a: [Step; 4],
-    by_b: [Step; 4],
-    last: [Step; 5],
+    by_a: [PlayedStep; 4],
+    by_b: [PlayedStep; 4],
+    last: [PlayedStep; 5],
 }
 
 // Of two clients with four calls each.
@@ -325,9 +337,9 @@ enum Explained {
 // one first.
 fn other_turn(
     alloc: Global,
-    group: &mut Plain,
-    a: &mut Side<'_>,
-    b: &mut Side<'_>,
+    group: &mut PlainScripted,
+    a: &mut PlayedSide<'_>,
+    b: &mut PlayedSide<'_>,
     turns: u32,
 ) -> Result<Option<u32>, Refusal> {
     for turn in 0..TURNS {
@@ -344,7 +356,11 @@ fn other_turn(
     Ok(None)
 }
 
-fn ended_by(alloc: Global, group: &mut Plain, side: &mut Side<'_>) -> Result<Explained, Refusal> {
+fn ended_by(
+    alloc: Global,
+    group: &mut PlainScripted,
+    side: &mut PlayedSide<'_>,
+) -> Result<Explained, Refusal> {
     for _ in 0..side.steps.len() {
         if !side.fits(alloc, group)? {
             return Ok(Explained::Until(TURNS));
@@ -356,12 +372,12 @@ fn ended_by(alloc: Global, group: &mut Plain, side: &mut Side<'_>) -> Result<Exp
 // How a game is explained by that order, in a group of one thread. What A made afterwards counts as one turn more.
 fn explained_in<'a>(
     alloc: Global,
-    a: &mut Side<'a>,
-    b: &mut Side<'_>,
-    last: &'a [Step],
+    a: &mut PlayedSide<'a>,
+    b: &mut PlayedSide<'_>,
+    last: &'a [PlayedStep],
     turns: u32,
 ) -> Result<Explained, Refusal> {
-    let mut group = Plain::new(alloc)?;
+    let mut group = PlainScripted::new(alloc)?;
     if let Some(turn) = other_turn(alloc, &mut group, a, b, turns)? {
         return Ok(Explained::Until(turn));
     }
@@ -403,14 +419,14 @@ struct Dice {
 }
 
 impl Dice {
-    fn draws(&mut self) -> Call {
+    fn draws(&mut self) -> PlayedCall {
         self.number ^= self.number << 13;
         self.number ^= self.number >> 7;
         self.number ^= self.number << 17;
         CALLS[(self.number % 16) as usize]
     }
 
-    fn draws_four(&mut self) -> [Step; 4] {
+    fn draws_four(&mut self) -> [PlayedStep; 4] {
         [
             unmade(self.draws()),
             unmade(self.draws()),
@@ -433,8 +449,8 @@ impl Dice {
 // The game with what both were answered.
 fn both_make<R: AllocGlobal + Threads + Sync, S: Store<ScriptMutators> + Send>(
     rt: &R,
-    a: &mut Player<S>,
-    b: &mut Player<S>,
+    a: &mut NumberedClient<S>,
+    b: &mut NumberedClient<S>,
     first: &Ticket,
     game: &mut Game,
 ) -> Result<(), Refusal> {
@@ -456,8 +472,8 @@ fn both_make<R: AllocGlobal + Threads + Sync, S: Store<ScriptMutators> + Send>(
 fn played_by<R: AllocGlobal + Threads + Sync, S: Store<ScriptMutators> + Send>(
     rt: &R,
     alloc: Global,
-    a: &mut Player<S>,
-    b: &mut Player<S>,
+    a: &mut NumberedClient<S>,
+    b: &mut NumberedClient<S>,
     game: &mut Game,
 ) -> Result<(), Refusal> {
     let first = a.client.begin_pull(TRIES)?;
@@ -469,7 +485,7 @@ fn played_by<R: AllocGlobal + Threads + Sync, S: Store<ScriptMutators> + Send>(
 fn played<R: AllocGlobal + Threads + Sync, S: Store<ScriptMutators> + Send>(
     rt: &R,
     alloc: Global,
-    players: &mut [Player<S>],
+    players: &mut [NumberedClient<S>],
     drawn: Game,
 ) -> Result<Game, Refusal> {
     let mut game = drawn;

@@ -6,12 +6,13 @@ use script_mutators::ScriptMutators;
 use std::alloc::Global;
 use std::thread::{Threads, join};
 use test_group::{
-    A, Answer, B, Player, Told, call_of, gets, mutates, n_in, new_players, number_of, pulls,
+    A, B, CallTold, NumberedClient, ToldResult, call_of, gets, mutates, n_in, new_players,
+    number_of, pulls,
 };
 
 type Caller = Client<ScriptMutators, Arena<ScriptMutators>>;
 
-type Kept = Reader<ScriptMutators, Arena<ScriptMutators>>;
+type KeptReader = Reader<ScriptMutators, Arena<ScriptMutators>>;
 
 const TRIES: u32 = 1_000;
 
@@ -30,23 +31,23 @@ struct Seen {
     pulled: Option<i64>,
     body: Vec<u8>,
     moments: [u64; 3],
-    n: Answer,
+    n: ToldResult,
 }
 
-fn n_of(reader: &Kept) -> Result<Option<i64>, Refusal> {
+fn n_of(reader: &KeptReader) -> Result<Option<i64>, Refusal> {
     let mut tx = reader.tx();
     let value = tx.get("n")?;
     Ok(number_of(value.as_ref()))
 }
 
-fn pulled_n_of(reader: &Kept) -> Result<Option<i64>, Refusal> {
+fn pulled_n_of(reader: &KeptReader) -> Result<Option<i64>, Refusal> {
     let mut tx = reader.pulled()?;
     let value = tx.get("n")?;
     Ok(number_of(value.as_ref()))
 }
 
 // How often the reader tells another n than 6.
-fn wrong_reads(reader: &mut Kept) -> u32 {
+fn wrong_reads(reader: &mut KeptReader) -> u32 {
     let mut wrong = 0u32;
     for _ in 0..TIMES {
         if n_of(reader) != Ok(Some(6)) {
@@ -72,7 +73,7 @@ fn raises(client: &mut Caller, alloc: Global, times: u32) -> Result<u32, Refusal
 fn kept_beside<R: Threads + Sync>(
     rt: &R,
     alloc: Global,
-    reader: Kept,
+    reader: KeptReader,
     other: &mut Caller,
 ) -> Result<Seen, Refusal> {
     let mut reader = reader;
@@ -102,8 +103,8 @@ fn read_beside_a_writer<R: Threads + Sync>(rt: &R, alloc: Global) -> Result<Seen
         return Err(Refusal::NoSeat);
     };
     let (
-        Player { client, .. },
-        Player {
+        NumberedClient { client, .. },
+        NumberedClient {
             client: mut other,
             ..
         },
@@ -170,7 +171,7 @@ fn rows_kept(
 fn what_the_server_sent_is_read_beside_what_is_pending(rt: HostRuntime) -> Result<(), Refusal> {
     let alloc = rt.alloc();
     let mut players = new_players::<Arena<ScriptMutators>>(alloc, (), 256, &[A])?;
-    let Some(Player { client, .. }) = players.pop() else {
+    let Some(NumberedClient { client, .. }) = players.pop() else {
         return Err(Refusal::NoSeat);
     };
     let mut client = client;
@@ -193,6 +194,6 @@ fn a_kept_reader_reads_one_moment(rt: HostRuntime) -> Result<(), Refusal> {
     assert!(rt; seen.pulled == Some(5));
     let [then, now, other] = seen.moments;
     assert!(rt; then < now && now == other);
-    assert!(rt; seen.n == Ok(Told::Value(Some(206))) && !seen.body.is_empty());
+    assert!(rt; seen.n == Ok(CallTold::Value(Some(206))) && !seen.body.is_empty());
     Ok(())
 }

@@ -4,7 +4,7 @@
 //! answer.
 
 use super::gated::{Gated, StoreCall};
-use super::gates::{Hold, Moment, Side, Turns, Word};
+use super::gates::{GateWord, Hold, Moment, StepSide, Turns};
 use chunk_slots::{Arena, Store};
 use group_history::{Ended, Refusal};
 use rebase::Client;
@@ -12,7 +12,8 @@ use script_mutators::ScriptMutators;
 use std::alloc::Global;
 use std::thread::{Threads, join};
 use test_group::{
-    A, Answer, B, C, Player, Told, answered, call_of, mutates, n_in, new_players, pulls,
+    A, B, C, CallTold, NumberedClient, ToldResult, answered, call_of, mutates, n_in, new_players,
+    pulls,
 };
 
 // What a client does, with one try each time, and what it is told.
@@ -20,7 +21,7 @@ use test_group::{
 enum Act {
     Rests,
     // It waits until the word shows the number.
-    Hears(Word, u64),
+    Hears(GateWord, u64),
     // It ends a pull that brings this cookie and this number at `n`. That is applied.
     Pulls(u64, u64),
     // Before each of so many pulls, which are applied, it waits for the number of the round, and says it after it.
@@ -30,11 +31,11 @@ enum Act {
     // It adds 1 to `n` so often, each time with the next id. Once more, and it is Full.
     Fills(u64),
     // It opens a reader, says the first word, and reads this number at `n`; waits for the second, and reads the same.
-    Reads(i64, (Word, u64), (Word, u64)),
+    Reads(i64, (GateWord, u64), (GateWord, u64)),
 }
 
 // The number of the player, and what it does.
-type Deed = (usize, Act);
+type SeatAct = (usize, Act);
 
 // The three clients of a group of 32 slots, of which A has the number 0, C 1, and B 2. First what is done before there
 // are threads; then what B does on a thread of its own, and the others beside it; then what is done when both have
@@ -42,16 +43,16 @@ type Deed = (usize, Act);
 #[derive(Clone, Copy)]
 struct Schedule {
     holds: [Hold; 2],
-    before: [Deed; 1],
-    others: [Deed; 2],
-    last: [Deed; 3],
-    after: [Deed; 1],
+    before: [SeatAct; 1],
+    others: [SeatAct; 2],
+    last: [SeatAct; 3],
+    after: [SeatAct; 1],
 }
 
 // The first answer that is another than it should be.
-type Other = Option<Answer>;
+type Other = Option<ToldResult>;
 
-fn other_than(answer: Answer, want: Answer) -> Result<Other, Refusal> {
+fn other_than(answer: ToldResult, want: ToldResult) -> Result<Other, Refusal> {
     let answer = answered(answer)?;
     Ok(if answer == want { None } else { Some(answer) })
 }
@@ -65,7 +66,7 @@ fn pull_other<S: Store<ScriptMutators>>(
     let body = format!(in alloc;
         r#"{{"cookie":{cookie},"lastMutationIDChanges":{{}},"patch":[{{"op":"put","key":"n","value":{n}}}]}}"#
     )?;
-    other_than(pulls(client, &body, 1), Ok(Told::Ended(Ended::Applied)))
+    other_than(pulls(client, &body, 1), Ok(CallTold::Ended(Ended::Applied)))
 }
 
 fn serve_other<S: Store<ScriptMutators>>(
@@ -76,12 +77,12 @@ fn serve_other<S: Store<ScriptMutators>>(
 ) -> Result<Other, Refusal> {
     for before in 0..rounds {
         let round = before.wrapping_add(1);
-        turns.hears(Word::Go, round);
+        turns.hears(GateWord::Go, round);
         let other = pull_other(alloc, client, round, round)?;
         if other.is_some() {
             return Ok(other);
         }
-        turns.says(Word::Done, round);
+        turns.says(GateWord::Done, round);
     }
     Ok(None)
 }
@@ -108,7 +109,7 @@ fn fill_other<S: Store<ScriptMutators>>(
 ) -> Result<Other, Refusal> {
     let incr = call_of(alloc, "incr", r#"["n",1]"#)?;
     for before in 0..times {
-        let next = Ok(Told::Id(before.wrapping_add(1)));
+        let next = Ok(CallTold::Id(before.wrapping_add(1)));
         let other = other_than(mutates(client, &incr, 1), next)?;
         if other.is_some() {
             return Ok(other);
@@ -121,8 +122,8 @@ fn read_other<S: Store<ScriptMutators>>(
     client: &mut Client<ScriptMutators, S>,
     turns: &Turns<'_>,
     n: i64,
-    says: (Word, u64),
-    hears: (Word, u64),
+    says: (GateWord, u64),
+    hears: (GateWord, u64),
 ) -> Result<Other, Refusal> {
     let tx = client.read(1)?;
     turns.says(says.0, says.1);
@@ -130,12 +131,12 @@ fn read_other<S: Store<ScriptMutators>>(
     turns.hears(hears.0, hears.1);
     let second = n_in(&tx, "n");
     tx.close();
-    other_of_two(first.map(Told::Value), second.map(Told::Value), n)
+    other_of_two(first.map(CallTold::Value), second.map(CallTold::Value), n)
 }
 
 // The first of two answers that is not this number.
-fn other_of_two(first: Answer, second: Answer, n: i64) -> Result<Other, Refusal> {
-    let want = Ok(Told::Value(Some(n)));
+fn other_of_two(first: ToldResult, second: ToldResult, n: i64) -> Result<Other, Refusal> {
+    let want = Ok(CallTold::Value(Some(n)));
     match other_than(first, want)? {
         None => other_than(second, want),
         other => Ok(other),
@@ -166,9 +167,9 @@ impl Act {
 
 fn first_other<S: Store<ScriptMutators>>(
     alloc: Global,
-    players: &mut [Player<S>],
+    players: &mut [NumberedClient<S>],
     turns: &Turns<'_>,
-    deeds: &[Deed],
+    deeds: &[SeatAct],
 ) -> Result<Other, Refusal> {
     for (number, act) in deeds {
         for player in players.iter_mut() {
@@ -186,9 +187,9 @@ fn first_other<S: Store<ScriptMutators>>(
 // The same on a thread, which says when it has ended.
 fn first_on_thread<S: Store<ScriptMutators>>(
     alloc: Global,
-    players: &mut [Player<S>],
+    players: &mut [NumberedClient<S>],
     turns: &Turns<'_>,
-    deeds: &[Deed],
+    deeds: &[SeatAct],
 ) -> Result<Other, Refusal> {
     let other = first_other(alloc, players, turns, deeds);
     turns.ends();
@@ -199,7 +200,7 @@ fn first_on_thread<S: Store<ScriptMutators>>(
 fn both_other<R: Threads + Sync, S: Store<ScriptMutators> + Send>(
     rt: &R,
     alloc: Global,
-    players: &mut [Player<S>],
+    players: &mut [NumberedClient<S>],
     turns: &Turns<'_>,
     schedule: &Schedule,
 ) -> (Result<Other, Refusal>, Result<Other, Refusal>) {
@@ -215,7 +216,7 @@ fn both_other<R: Threads + Sync, S: Store<ScriptMutators> + Send>(
 fn others_of<R: Threads + Sync, S: Store<ScriptMutators> + Send>(
     rt: &R,
     alloc: Global,
-    players: &mut [Player<S>],
+    players: &mut [NumberedClient<S>],
     turns: &Turns<'_>,
     schedule: &Schedule,
 ) -> Result<[Other; 4], Refusal> {
@@ -256,17 +257,17 @@ fn others_by<R: Threads + Sync>(
 
 const AS_SAID: [Other; 4] = [None, None, None, None];
 
-const REST: Deed = (0, Act::Rests);
+const REST: SeatAct = (0, Act::Rests);
 
 const NEVER: Hold = Hold {
     moment: Moment {
         seat: 0,
         step: StoreCall::Place,
-        side: Side::Before,
+        side: StepSide::Before,
     },
     every: 1,
     rounds: 0,
-    says: Word::Go,
+    says: GateWord::Go,
     above: 0,
 };
 
@@ -279,11 +280,11 @@ static LOST: Schedule = Schedule {
             moment: Moment {
                 seat: 0,
                 step: StoreCall::Place,
-                side: Side::After,
+                side: StepSide::After,
             },
             every: 2,
             rounds: 1_000,
-            says: Word::Go,
+            says: GateWord::Go,
             above: 0,
         },
         NEVER,
@@ -308,19 +309,19 @@ static KEPT: Schedule = Schedule {
             moment: Moment {
                 seat: 2,
                 step: StoreCall::Settle,
-                side: Side::Before,
+                side: StepSide::Before,
             },
             every: 4,
             rounds: 1,
-            says: Word::Go,
+            says: GateWord::Go,
             above: 0,
         },
         NEVER,
     ],
     before: [(2, Act::Pulls(1, 5))],
     others: [
-        (0, Act::Hears(Word::Go, 1)),
-        (0, Act::Reads(5, (Word::Done, 1), (Word::Go, 2))),
+        (0, Act::Hears(GateWord::Go, 1)),
+        (0, Act::Reads(5, (GateWord::Done, 1), (GateWord::Go, 2))),
     ],
     last: [(2, Act::Pulls(2, 6)), (2, Act::Fills(10)), REST],
     after: [REST],
@@ -340,19 +341,19 @@ static DROPPED: Schedule = Schedule {
             moment: Moment {
                 seat: 2,
                 step: StoreCall::Raise,
-                side: Side::After,
+                side: StepSide::After,
             },
             every: 2,
             rounds: 1,
-            says: Word::Go,
+            says: GateWord::Go,
             above: 0,
         },
         NEVER,
     ],
     before: [(2, Act::Pulls(1, 5))],
     others: [
-        (0, Act::Hears(Word::Go, 1)),
-        (0, Act::Reads(6, (Word::Done, 1), (Word::Go, 2))),
+        (0, Act::Hears(GateWord::Go, 1)),
+        (0, Act::Reads(6, (GateWord::Done, 1), (GateWord::Go, 2))),
     ],
     last: [(2, Act::Pulls(2, 6)), (2, Act::Fills(11)), REST],
     after: [REST],
@@ -374,32 +375,32 @@ static RELAYED: Schedule = Schedule {
             moment: Moment {
                 seat: 1,
                 step: StoreCall::Raise,
-                side: Side::Before,
+                side: StepSide::Before,
             },
             every: 2,
             rounds: 1,
-            says: Word::Go,
+            says: GateWord::Go,
             above: 0,
         },
         Hold {
             moment: Moment {
                 seat: 2,
                 step: StoreCall::Settle,
-                side: Side::Before,
+                side: StepSide::Before,
             },
             every: 2,
             rounds: 1,
-            says: Word::Done,
+            says: GateWord::Done,
             above: 1,
         },
     ],
     before: [(1, Act::Pulls(1, 5))],
     others: [
         (1, Act::Pulls(2, 6)),
-        (0, Act::Reads(6, (Word::Go, 2), (Word::Done, 2))),
+        (0, Act::Reads(6, (GateWord::Go, 2), (GateWord::Done, 2))),
     ],
     last: [
-        (2, Act::Hears(Word::Go, 1)),
+        (2, Act::Hears(GateWord::Go, 1)),
         (2, Act::Pulls(3, 7)),
         (2, Act::Fills(10)),
     ],

@@ -11,14 +11,14 @@ use std::sync::atomic::AtomicU64;
 use std::sync::atomic::Ordering::SeqCst;
 use std::thread::{Threads, join, map_vec};
 use test_group::{
-    ClaimPlace, HeadPlace, Nobody, Place, claim_places, next_head, opened_store, places_of, shows,
-    two_heads,
+    ClaimPlace, HeadPlace, Nobody, SeatPlace, claim_places, next_head, opened_store, places_of,
+    shows, two_heads,
 };
 
 const LAST_EPOCH: u64 = 1 << 60;
 
 // How many nodes it placed and was then shown, and how many it was not.
-fn storms<S: Store<Nobody>>(place: Place<'_, S>, alloc: Global) -> (u32, u32) {
+fn storms<S: Store<Nobody>>(place: SeatPlace<'_, S>, alloc: Global) -> (u32, u32) {
     let (mut place, mut good, mut bad) = (place, 0u32, 0u32);
     for _ in 0..1_000 {
         let Ok(at) = place.puts(alloc) else {

@@ -14,7 +14,9 @@ use std::alloc::Global;
 use std::sync::atomic::AtomicU64;
 use std::sync::atomic::Ordering::SeqCst;
 use std::thread::{Threads, map_vec};
-use test_group::{A, Answer, B, C, D, E, Player, Told, call_of, mutates, n_in, new_players, pulls};
+use test_group::{
+    A, B, C, CallTold, D, E, NumberedClient, ToldResult, call_of, mutates, n_in, new_players, pulls,
+};
 
 const TRIES: u32 = 100;
 
@@ -43,7 +45,7 @@ impl Budget {
 }
 
 // What is read when all is over: `n`, and how many mutations are pending.
-type Left = (Option<i64>, usize);
+type LeftThere = (Option<i64>, usize);
 
 // How often answers were given. Those that have no number here are left out.
 #[derive(Clone, Copy, PartialEq, Eq, Debug)]
@@ -54,7 +56,7 @@ struct Answers {
     same: u64,
     busy: u64,
     gone: u64,
-    left: Option<Left>,
+    left: Option<LeftThere>,
 }
 
 const NONE: Answers = Answers {
@@ -86,10 +88,10 @@ impl Answers {
         Ok(())
     }
 
-    fn add(&mut self, answer: Answer) -> Result<(), Refusal> {
+    fn add(&mut self, answer: ToldResult) -> Result<(), Refusal> {
         match answer {
-            Ok(Told::Id(id)) => self.add_id(id),
-            Ok(Told::Ended(Ended::Same)) => self.same = self.same.wrapping_add(1),
+            Ok(CallTold::Id(id)) => self.add_id(id),
+            Ok(CallTold::Ended(Ended::Same)) => self.same = self.same.wrapping_add(1),
             Ok(_) => {}
             Err(refusal) => return self.add_refusal(refusal),
         }
@@ -132,7 +134,7 @@ const MUTATING: [&str; 4] = [A, B, C, D];
 
 // The server's side: it adds one to `n` for each mutation that it sees the first time.
 #[derive(Clone, Copy)]
-struct Server {
+struct StormServer {
     // The greatest id that it saw of each client.
     greatest: [u64; 4],
     n: u64,
@@ -141,7 +143,7 @@ struct Server {
     confirmed: u64,
 }
 
-impl Server {
+impl StormServer {
     fn counts_id(&mut self, client: &str, id: u64) -> Option<()> {
         let place = MUTATING.iter().position(|known| *known == client)?;
         if id > self.greatest[place] {
@@ -180,8 +182,10 @@ impl Server {
         let cookie = self.cookie.wrapping_add(1);
         let [a, b, c, d] = self.greatest;
         let n = self.n;
+        let ids = format!(in alloc; r#"{{"{A}":{a},"{B}":{b},"{C}":{c},"{D}":{d}}}"#)?;
+        let patch = format!(in alloc; r#"[{{"op":"put","key":"n","value":{n}}}]"#)?;
         Ok(format!(in alloc;
-            r#"{{"cookie":{cookie},"lastMutationIDChanges":{{"{A}":{a},"{B}":{b},"{C}":{c},"{D}":{d}}},"patch":[{{"op":"put","key":"n","value":{n}}}]}}"#
+            r#"{{"cookie":{cookie},"lastMutationIDChanges":{ids},"patch":{patch}}}"#
         )?)
     }
 
@@ -190,7 +194,7 @@ impl Server {
         &mut self,
         alloc: Global,
         client: &mut Client<ScriptMutators, S>,
-    ) -> Answer {
+    ) -> ToldResult {
         let body = self.responds(alloc)?;
         let answer = pulls(client, &body, TRIES);
         if answer.is_ok() {
@@ -205,7 +209,7 @@ impl Server {
         &mut self,
         alloc: Global,
         client: &mut Client<ScriptMutators, S>,
-    ) -> Answer {
+    ) -> ToldResult {
         let push = client.push_body(0, TRIES)?;
         self.counts_all(alloc, &push)?;
         self.serves(alloc, client)
@@ -218,7 +222,7 @@ fn pulls_all<S: Store<ScriptMutators>>(
     client: &mut Client<ScriptMutators, S>,
     budget: &Budget,
 ) -> Given {
-    let mut server = Server {
+    let mut server = StormServer {
         greatest: [0; 4],
         n: 0,
         cookie: 1,
@@ -235,7 +239,9 @@ fn pulls_all<S: Store<ScriptMutators>>(
     Ok(answers)
 }
 
-fn left_in<S: Store<ScriptMutators>>(tx: &ReadTx<'_, ScriptMutators, S>) -> Result<Left, Refusal> {
+fn left_in<S: Store<ScriptMutators>>(
+    tx: &ReadTx<'_, ScriptMutators, S>,
+) -> Result<LeftThere, Refusal> {
     let n = n_in(tx, "n")?;
     let pending = tx.pending()?;
     Ok((n, pending.len()))
@@ -243,7 +249,7 @@ fn left_in<S: Store<ScriptMutators>>(tx: &ReadTx<'_, ScriptMutators, S>) -> Resu
 
 fn reads<S: Store<ScriptMutators>>(
     client: &mut Client<ScriptMutators, S>,
-) -> Result<Left, Refusal> {
+) -> Result<LeftThere, Refusal> {
     let tx = client.read(TRIES)?;
     let left = left_in(&tx);
     tx.close();
@@ -254,10 +260,10 @@ fn reads<S: Store<ScriptMutators>>(
 // calls any more.
 fn storms<S: Store<ScriptMutators> + Drop>(
     alloc: Global,
-    player: Player<S>,
+    player: NumberedClient<S>,
     budget: &Budget,
 ) -> Given {
-    let Player { number, mut client } = player;
+    let NumberedClient { number, mut client } = player;
     let given = if number == 0 {
         pulls_all(alloc, &mut client, budget)
     } else {
@@ -273,7 +279,7 @@ fn storms<S: Store<ScriptMutators> + Drop>(
 const N_IS_0: &str =
     r#"{"cookie":1,"lastMutationIDChanges":{},"patch":[{"op":"put","key":"n","value":0}]}"#;
 
-fn first_pulls<S: Store<ScriptMutators>>(players: &mut [Player<S>]) -> Answer {
+fn first_pulls<S: Store<ScriptMutators>>(players: &mut [NumberedClient<S>]) -> ToldResult {
     match players.first_mut() {
         Some(player) => pulls(&mut player.client, N_IS_0, 1),
         None => Err(Refusal::NoSeat),
@@ -298,7 +304,7 @@ fn sum_of(given: &[Given]) -> Result<(u64, Answers), Refusal> {
 fn storm_of<R: Threads + Sync, S: Store<ScriptMutators> + Drop + Send>(
     rt: &R,
     alloc: Global,
-    players: Vec<Player<S>>,
+    players: Vec<NumberedClient<S>>,
 ) -> Result<(u64, Answers), Refusal> {
     let budget = Budget {
         made: AtomicU64::new(0),

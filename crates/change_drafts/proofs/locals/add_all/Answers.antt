@@ -1,4 +1,4 @@
-use Rattle.std.proofs.Common.{◌≡◌, rules, IfOk, Some, sym, ◌∙◌, subst}
+use Rattle.std.proofs.Common.{◌≡◌, rules, IfOk, Some, refl, sym, ◌∙◌, subst}
 use Rattle.group_history.specs.declared.mutations.Mutation.{Mutation}
 use Rattle.group_history.specs.Mutating.{after_mutate}
 use Rattle.group_history.specs.Refs.{stamp_of}
@@ -40,7 +40,7 @@ returns-clause-tip g c v m h is_open is =
     subst (λ (x : Mutation). IfOk c.add_over.result (λ (after : Tip).
     HasTip (with_nodes known c.add_over.new.draft.nodes) after
     (record { state = after_mutate (with_more v.state before) x; read = m }))) same
-    (c.add_over.ensures.spelled known now m behind at.0 at.2 is_open map)
+    (c.add_over.ensures.spelled known now m behind at.0 at.2 is_open refl map)
 
 pub returns-clause-needed : goal.returns-clause-needed
 returns-clause-needed g c = if_ok_so c.add_over.result c.add_over.ensures.needed (λ at p.

@@ -1,4 +1,4 @@
-use Rattle.std.proofs.Common.{◌≡◌, ◌≤◌, List, take, length, rules, sym, ap, ◌∙◌, subst, arith}
+use Rattle.std.proofs.Common.{◌≡◌, ◌≤◌, List, take, length, rules, refl, sym, ap, ◌∙◌, subst, arith}
 use Rattle.std.proofs.lemmas.List.{take_all}
 use Rattle.group_history.specs.declared.mutations.Mutation.{Mutation}
 use Rattle.group_history.specs.Mutating.{after_mutate}
@@ -40,7 +40,7 @@ loop-mutation-preserved g c =
           ∙ with_next v.state xs k c.mutation-item.result c.loop-mutation-test.true c.mutation-item.is in
           subst (λ (s : State). HasTip (with_nodes known c.add_over.new.draft.nodes) c.in_ok-tip.tip
           (record { state = s; read = v.read })) next
-          (c.in_ok-tip.ensures.spelled known now v.read (sym (i.0 ∙ c.requires.behind)) at.0 at.2 is_open at.1),
+          (c.in_ok-tip.ensures.spelled known now v.read (sym (i.0 ∙ c.requires.behind)) at.0 at.2 is_open refl at.1),
       λ own. subst (λ n. n ≤ stamp_of c.in_ok-tip.tip.commit) i.0 c.in_ok-tip.ensures.new,
       needed_next c.args.basis.commit c.loop-mutation.tip.root c.loop-mutation.tip.commit c.loop-mutation.tip.snapshot
           c.in_ok-tip.tip.commit c.args.draft.now c.loop-mutation.draft c.add_over.new.draft i.4

@@ -46,3 +46,14 @@ loop-mutation-preserved g c =
           ∙ replayed_done means m (now m) c.loop-mutation.done.items c.in-Ran.left.done x (v.done m h) (may m h).2
           ∙ replayed_next means m xs k x c.loop-mutation-test.true c.mutation-item.is;
     }
+
+pub returns-in_default-clause-lacks : goal.returns-in_default-clause-lacks
+returns-in_default-clause-lacks g c =
+    let means = g.M.Means.means in let k = c.loop-mutation.mutation-index in let xs = c.args.pending.now in
+    let x = c.mutation-item.result in let m = c.requires.map.0 in
+    let contents = with_nodes g.K.NamesContents.known c.args.draft.now.nodes in
+    let lacks = subst
+    (λ (w : Replayed). MayReplay contents (g.M.Has.has x.name) means (replayed means m (take k xs)) x w)
+    c.in_default.is (c.in_ok-left.ensures.left (replayed means m (take k xs))
+    (c.loop-mutation.invariant.tree m c.requires.map.1)) in
+    (x, (k, c.loop-mutation-test.true, sym c.mutation-item.is), lacks.0)

@@ -10,12 +10,12 @@ use Rattle.change_drafts.proofs.NeededLemmas.{needed_local}
 use Rattle.change_drafts.proofs.tips.add_local.Goals as goal
 
 pub returns-clause-spelled : goal.returns-clause-spelled
-returns-clause-spelled c contents v m l b s is_open h =
+returns-clause-spelled c contents v m l b s is_open right h =
     let old = with_nodes contents c.args.draft.now.nodes in let mid = with_nodes contents c.freeze.new.draft.nodes in
     let grown = nodes-grown contents c.args.draft.now.nodes c.freeze.new.draft.nodes c.freeze.ensures.grown in
     let at = stamp_of c.args.basis.commit in
     c.in_ok-tip.ensures.spelled contents v m (l ∙ sym c.freeze.ensures.first) (version-grown old mid at v grown b)
-    (snapshot-grown old mid at (stamp_of c.args.basis.snapshot) grown s) is_open
+    (snapshot-grown old mid at (stamp_of c.args.basis.snapshot) grown s) is_open right
     (c.in_ok-root.ensures.spelled contents m l h)
 
 pub add_over-requires : goal.add_over-requires

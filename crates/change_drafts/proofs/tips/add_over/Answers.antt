@@ -10,10 +10,10 @@ use Rattle.map_chunks.proofs.NeededLemmas.{adds_one}
 use Rattle.change_drafts.proofs.tips.add_over.Goals as goal
 
 pub returns-clause-spelled : goal.returns-clause-spelled
-returns-clause-spelled c contents v m l b s is_open h =
+returns-clause-spelled c contents v m l b s is_open right h =
     over_tip contents c.args.draft.now.nodes c.push_commit.new.self.nodes c.args.draft.now.first c.args.basis
-    c.args.root c.in_ok-commit.commit c.args.step v m l
-    (ap (λ (d : Drafted). d.nodes) c.in_ok-commit.ensures.ok) c.in_ok-commit.ensures.stamp.0 b s is_open h
+    c.args.root c.in_ok-commit.commit c.args.step c.args.told v m l
+    (ap (λ (d : Drafted). d.nodes) c.in_ok-commit.ensures.ok) c.in_ok-commit.ensures.stamp.0 b s is_open right h
 
 pub push_commit-requires : goal.push_commit-requires
 push_commit-requires c = record { children = c.requires.below }
@@ -38,5 +38,10 @@ returns-clause-needed c =
     let basis = c.args.basis in
     adds_one c.args.draft.now c.push_commit.new.self (node.Commit (record {
       root = c.args.root;
-      kind = Over (record { basis = basis.commit; snapshot = basis.snapshot; step = c.args.step });
+      kind = Over (record {
+        basis = basis.commit;
+        snapshot = basis.snapshot;
+        step = c.args.step;
+        told = c.args.told;
+      });
     })) c.in_ok-commit.commit c.in_ok-commit.ensures.stamp.0 c.in_ok-commit.ensures.ok

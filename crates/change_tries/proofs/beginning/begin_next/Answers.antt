@@ -8,7 +8,7 @@ use Rattle.change_drafts.specs.Running.{MayRun}
 use Rattle.change_drafts.specs.declared.runs.OwnRun.{OwnRun}
 use Rattle.change_tries.specs.Places.{state_at}
 use Rattle.group_history.specs.declared.changes.Change.TheVariants.{Mutated}
-use Rattle.change_tries.specs.Runs.{IsAskedRun, IsFresh, drafted}
+use Rattle.change_tries.specs.Runs.{IsAskedRun, IsFresh, with_draft}
 use Rattle.change_tries.specs.declared.runs.AskedRun.{AskedRun}
 use Rattle.change_tries.proofs.Running.{begun}
 use Rattle.change_tries.proofs.beginning.begin_next.Goals as goal
@@ -16,13 +16,13 @@ use Rattle.change_tries.proofs.beginning.begin_next.Goals as goal
 pub end_new-requires-clause-ran : goal.end_new-requires-clause-ran
 end_new-requires-clause-ran g c κs within =
     let means = g.M.Means.means in let x = c.args.mutation in let m = view_of means (state_at c.args.at.now) in
-    (subst (λ (w : OwnRun). MayRun (drafted (drawn c.args.at.now.mark.log) c.args.chain) (g.M.Has.has x.name)
+    (subst (λ (w : OwnRun). MayRun (with_draft (drawn c.args.at.now.mark.log) c.args.chain) (g.M.Has.has x.name)
     (meaning_of means x m) m w) c.in-Ran.is c.in_ok-run.ensures.ran).1
 
 pub returns-in_ok-new-in-Lacks-clause-step : goal.returns-in_ok-new-in-Lacks-clause-step
 returns-in_ok-new-in-Lacks-clause-step g c =
     let means = g.M.Means.means in let x = c.args.mutation in let s = state_at c.args.at.now in
-    let m = view_of means s in let there = drafted (drawn c.args.at.now.mark.log) c.args.chain in
+    let m = view_of means s in let there = with_draft (drawn c.args.at.now.mark.log) c.args.chain in
     let n = c.requires.new in let ran = c.new.ensures.items in let behind = c.new-in-Lacks-2.ensures.items in
     let rest = c.new-in-Lacks-2.result.items in
     let may = subst (λ (w : OwnRun). MayRun there (g.M.Has.has x.name) (meaning_of means x m) m w) c.in-Lacks.is

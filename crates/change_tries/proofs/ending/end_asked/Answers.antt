@@ -11,7 +11,7 @@ use Rattle.linearized.specs.Trying.{IsUnproposed}
 use Rattle.change_tries.specs.Missing.{IsStop}
 use Rattle.change_tries.specs.Places.{state_at}
 use Rattle.change_tries.specs.Proposing.{asked_reply, change_asked}
-use Rattle.change_tries.specs.Runs.{IsNext, MayStep, drafted}
+use Rattle.change_tries.specs.Runs.{IsNext, MayStep, with_draft}
 use Rattle.change_tries.proofs.Running.{has_run}
 use Rattle.change_tries.proofs.ending.end_asked.Goals as goal
 
@@ -29,7 +29,7 @@ end_new-requires-clause-ran g c κs within =
     let means = g.M.Means.means in let cs = drawn c.args.at.now.mark.log in let run = c.args.run in
     let h = has_run means cs run c.args.ran c.requires.run.map c.requires.ran in (
       h.0,
-      ap (tree_map (drafted cs run.chain)) c.into_tree-tree.ensures ∙ h.1,
+      ap (tree_map (with_draft cs run.chain)) c.into_tree-tree.ensures ∙ h.1,
       subst (λ (m : Entries). RunsAs (meaning_of means run.mutation m) c.args.ran h.0) c.requires.run.judged.4 h.2,
     )
 

@@ -17,7 +17,7 @@ use Rattle.change_tries.specs.Missing.{map_ok}
 use Rattle.change_tries.specs.Places.{HeadPlace, state_at}
 use Rattle.change_tries.specs.Proposing.{asked_reply, change_asked}
 use Rattle.change_tries.proofs.Making.{accepted_next, reply_next}
-use Rattle.change_tries.specs.Runs.{drafted}
+use Rattle.change_tries.specs.Runs.{with_draft}
 use Rattle.change_tries.proofs.Running.{refused_next, want_unproposed}
 use Rattle.change_tries.proofs.ending.end_new.Goals as goal
 
@@ -25,7 +25,7 @@ pub add_local-requires-clause-map : goal.add_local-requires-clause-map
 add_local-requires-clause-map g c =
     let means = g.M.Means.means in let cs = drawn c.args.at.now.mark.log in let chain = c.args.chain in
     let s = state_at c.args.at.now in
-    let tree = c.in_ok-tree.ensures.ok (drafted cs chain) (meaning_of means c.args.mutation (view_of means s))
+    let tree = c.in_ok-tree.ensures.ok (with_draft cs chain) (meaning_of means c.args.mutation (view_of means s))
     c.requires.ran in
     tree-behind cs chain.draft c.in_ok-tree.tree tree.0 c.requires.new.first tree.1
 
@@ -40,9 +40,9 @@ returns-clause-step g c =
     let means = g.M.Means.means in let s = state_at c.args.at.now in let cs = drawn c.args.at.now.mark.log in
     let chain = c.args.chain in let x = c.args.mutation in let last = c.args.last in let n = c.requires.new in
     let right = meaning_of means x (view_of means s) in
-    let tree = c.in_ok-tree.ensures.ok (drafted cs chain) right c.requires.ran in
+    let tree = c.in_ok-tree.ensures.ok (with_draft cs chain) right c.requires.ran in
     let spelled = c.in_ok-after.ensures.spelled cs (version_of means s) tree.0 n.first n.tip.0 n.tip.2 n.next.opened
-    tree.1 in
+    c.in_ok-told.ensures.right tree.1 in
     let shape : Entries → Version = λ r. record { state = after_mutate s x; read = r } in
     let read = left-done right (view_of means s) tree.0 tree.2 ∙ sym (view-mutated means s x) in
     let reply = reply_next means s x last n.next.opened n.next.own n.next.next
@@ -69,7 +69,7 @@ returns-in_err-tree-clause-err g c =
     let x = c.args.mutation in let meaning = meaning_of means x (view_of means s) in
     let p = err_from_is_err_and c.from_residual.result c.from_residual.ensures.1 in
     rw (p.1, p.2) (refused_next g.S.Slots.reused means s c.args.last x meaning _ c.requires.new.next refl
-    (c.in_err-tree.ensures.err (drafted cs c.args.chain) meaning c.requires.ran))
+    (c.in_err-tree.ensures.err (with_draft cs c.args.chain) meaning c.requires.ran))
 
 pub returns-in_err-after-clause-err : goal.returns-in_err-after-clause-err
 returns-in_err-after-clause-err g c =

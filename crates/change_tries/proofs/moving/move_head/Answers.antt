@@ -25,7 +25,7 @@ use Rattle.commit_graph.specs.Reach.{Reaches}
 use Rattle.commit_graph.proofs.Reached.{reaches_stays}
 use Rattle.commit_publishing.proofs.Carrying.{placed_among, placed-later, placed-spelled}
 use Rattle.commit_publishing.specs.Placed.{LieBelow}
-use Rattle.commit_publishing.specs.Retiring.{AreFreed, GivenUp, GivesOneUp, drafted}
+use Rattle.commit_publishing.specs.Retiring.{AreFreed, GivenUp, GivesOneUp, draft_deeds}
 use Rattle.change_tries.specs.Changing.{FreesMove}
 use Rattle.change_tries.specs.Leaving.{FreesWhatIsLeft}
 use Rattle.change_tries.proofs.Drafting.{one_state}
@@ -220,7 +220,7 @@ returns-in-Ok-Won-clause-frees g c r =
           ∙ append_assoc (own old.mark) (drafted_by old.mark.seat d.first d.contents ∷ [])
           (moved old.mark.seat to change ∷ []);
       freed = subst (λ (t : ClaimsId). AreFreed t.sizes.slots new.view.reached (map slot_of what.0)
-          (drafted (map slot_of refs) [] old.view.deeds) new.view.deeds) (sym c.requires.reading.0.1)
+          (draft_deeds (map slot_of refs) [] old.view.deeds) new.view.deeds) (sym c.requires.reading.0.1)
           (subst (λ (xs : List Deed). AreFreed slots new.view.reached (map slot_of what.0) xs new.view.deeds)
           (c.in_ok-refs.ensures.drafted r) what.2);
     }

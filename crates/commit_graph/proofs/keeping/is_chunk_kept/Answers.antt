@@ -4,7 +4,7 @@ use Rattle.std.proofs.lemmas.Bool.{eqb-true, eq-eqb}
 use Rattle.std.proofs.lemmas.Result.{IfOk-at_ok}
 use Rattle.group_history.specs.Refs.{stamp_of}
 use Rattle.commit_graph.specs.Reach.{Reaches}
-use Rattle.commit_graph.specs.Inside.Meeting.{keys_in, IsFirst, HasKey}
+use Rattle.commit_graph.specs.Inside.Meeting.{keys_in, IsFirstKey, HasKeyAt}
 use Rattle.commit_graph.proofs.Chained.{none_from}
 use Rattle.commit_graph.proofs.Rooted.{map_some_stays, kept_grown, kept_empty, kept_key}
 use Rattle.map_chunks.proofs.KeptLemmas.{grows_on}
@@ -16,7 +16,7 @@ returns-in_default-clause-kept g c =
     let none : c.in_ok-key.field-0 ≡ None = none_from c.in_ok-key.field-0 c.in_default.not-Some in
     let e = kept_empty (m c.args.chunks.now) (m c.look_at.new.chunks) (stamp_of c.args.root)
     (stamp_of c.args.at) k.0.now c.requires.root c.requires.chunk c.look_at.ensures.grown.0 k.1.1
-    (subst (IsFirst (keys_in k.0.now)) none (IfOk-at_ok (IsFirst (keys_in k.0.now)) c.in_ok-key.was k.2)) in (
+    (subst (IsFirstKey (keys_in k.0.now)) none (IfOk-at_ok (IsFirstKey (keys_in k.0.now)) c.in_ok-key.was k.2)) in (
       λ t. e.0 (sym c.stamp.ensures.stamp ∙ (eqb-true c.stamp.result c.stamp-in_default.result t ∙
           c.stamp-in_default.ensures.stamp)),
       λ r. eq-eqb c.stamp.result c.stamp-in_default.result
@@ -31,10 +31,10 @@ meets-requires-clause-root g c = let m = g.C.Chunks.contents in
 pub meets-requires-clause-key : goal.meets-requires-clause-key
 meets-requires-clause-key g c =
     let m = g.C.Chunks.contents in let k = c.in_ok-look_at.ensures.told in
-    subst (λ (n : ℕ). HasKey (m c.look_at.new.chunks) n c.in-Some.key) (sym c.stamp-2.ensures.stamp)
+    subst (λ (n : ℕ). HasKeyAt (m c.look_at.new.chunks) n c.in-Some.key) (sym c.stamp-2.ensures.stamp)
     (kept_key (m c.args.chunks.now) (m c.look_at.new.chunks)
     (stamp_of c.args.at) k.0.now c.in-Some.key c.requires.chunk c.look_at.ensures.grown.0 k.1.1
-    (subst (IsFirst (keys_in k.0.now)) c.in-Some.is (IfOk-at_ok (IsFirst (keys_in k.0.now)) c.in_ok-key.was k.2)))
+    (subst (IsFirstKey (keys_in k.0.now)) c.in-Some.is (IfOk-at_ok (IsFirstKey (keys_in k.0.now)) c.in_ok-key.was k.2)))
 
 pub returns-clause-kept : goal.returns-clause-kept
 returns-clause-kept g c =

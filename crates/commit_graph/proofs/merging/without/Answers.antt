@@ -3,7 +3,7 @@ use Rattle.std.specs.Prelude.{slice_index}
 use Rattle.group_history.specs.declared.refs.Ref.{Ref}
 use Rattle.group_history.specs.Refs.{stamp_of}
 use Rattle.commit_graph.specs.Reach.{stamps_of}
-use Rattle.commit_graph.specs.Inside.Reach.{Leaves}
+use Rattle.commit_graph.specs.Inside.Reach.{Omits}
 use Rattle.commit_graph.proofs.Leaving.{IsMerge, merge_skip, merge_add, take_all}
 use Rattle.commit_graph.proofs.merging.without.Goals as goal
 use Rattle.commit_graph.proofs.merging.without.Goals.{then-not-is_at+in_ok-add, else-not-is_at}
@@ -35,5 +35,5 @@ loop-at-preserved c =
 pub returns-clause-exact : goal.returns-clause-exact
 returns-clause-exact c =
     let bs = c.args.before.now in
-    subst (λ (w : List Ref). Leaves w c.args.kept.now c.loop-at.left.items)
+    subst (λ (w : List Ref). Omits w c.args.kept.now c.loop-at.left.items)
     (take_all bs c.loop-at.at-index c.loop-at-test.false) c.loop-at.invariant.leaves

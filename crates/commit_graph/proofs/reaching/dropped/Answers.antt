@@ -3,7 +3,7 @@ use Rattle.group_history.specs.declared.refs.Ref.{Ref}
 use Rattle.group_history.specs.Refs.{stamp_of}
 use Rattle.group_history.proofs.Lists.{prefix_trans}
 use Rattle.commit_graph.specs.Reach.{Falls, stamps_of}
-use Rattle.commit_graph.specs.Inside.Reach.{Leaves}
+use Rattle.commit_graph.specs.Inside.Reach.{Omits}
 use Rattle.commit_graph.proofs.Chained.{some_version, version_stays}
 use Rattle.commit_graph.proofs.Reached.{there_version, reaches_stays, reaches_back}
 use Rattle.commit_graph.proofs.Rooted.{map_some_stays, kept_grown, reaches_on}
@@ -44,9 +44,9 @@ returns-clause-exact g c =
     let on = prefix_trans base one two c.reachable.ensures.grown.0 c.reachable-2.ensures.grown.0 in
     let old = stamp_of c.args.old in let new = stamp_of c.args.new in let root = stamp_of c.in_ok-part.part.root in
     let v = some_version first old c.requires.old in let w = some_version first new c.requires.new in
-    let leaves : Leaves c.in_ok-before.before.items c.in_ok-kept.kept.items c.in_ok-left.left.items =
-    subst (λ (w : List Ref). Leaves c.in_ok-before.before.items w c.in_ok-left.left.items) c.deref-2.ensures.value
-    (subst (λ (w : List Ref). Leaves w c.deref-2.result.now c.in_ok-left.left.items) c.deref.ensures.value
+    let leaves : Omits c.in_ok-before.before.items c.in_ok-kept.kept.items c.in_ok-left.left.items =
+    subst (λ (w : List Ref). Omits c.in_ok-before.before.items w c.in_ok-left.left.items) c.deref-2.ensures.value
+    (subst (λ (w : List Ref). Omits w c.deref-2.result.now c.in_ok-left.left.items) c.deref.ensures.value
     c.in_ok-left.ensures.exact) in
     λ x. let l = leaves_stamps c.in_ok-before.before.items c.in_ok-kept.kept.items c.in_ok-left.left.items leaves x in
     let k = c.in_ok-kept.ensures.exact x in let b = c.in_ok-before.ensures.exact x in (
@@ -69,8 +69,8 @@ returns-clause-exact g c =
 
 pub returns-clause-places : goal.returns-clause-places
 returns-clause-places g c r h =
-    let leaves : Leaves c.in_ok-before.before.items c.deref-2.result.now c.in_ok-left.left.items =
-    subst (λ (w : List Ref). Leaves w c.deref-2.result.now c.in_ok-left.left.items) c.deref.ensures.value
+    let leaves : Omits c.in_ok-before.before.items c.deref-2.result.now c.in_ok-left.left.items =
+    subst (λ (w : List Ref). Omits w c.deref-2.result.now c.in_ok-left.left.items) c.deref.ensures.value
     c.in_ok-left.ensures.exact in
     c.in_ok-before.ensures.places r ((leaves r).0 h).0
 

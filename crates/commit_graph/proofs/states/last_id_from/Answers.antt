@@ -5,7 +5,7 @@ use Rattle.group_history.specs.State.{last_id}
 use Rattle.group_history.specs.Spelling.{Version}
 use Rattle.group_history.proofs.Lists.{prefix_self}
 use Rattle.map_chunks.proofs.KeptLemmas.{IfAt, grows_on}
-use Rattle.commit_graph.proofs.Rooted.{basis_may}
+use Rattle.commit_graph.proofs.Rooted.{next_may}
 use Rattle.commit_graph.proofs.Chained.{IsSearch, ahead, search_begins, search_ends, search_step, some_version}
 use Rattle.commit_graph.proofs.states.last_id_from.Goals as goal
 
@@ -49,7 +49,7 @@ loop-next-smaller g c =
     let s = search_step (m c.loop-next.nodes)
     (m c.look_at_commit.new.nodes) c.args.client.now last c.in-Some.at k.0.now met c.look_at_commit.ensures.grown.0
     k.1.1 in
-    subst (λ (o : Option Ref). ahead c.in_ok-own.own.basis < ahead o) (sym c.in-Some.is)
+    subst (λ (o : Option Ref). ahead c.in_ok-own.own.next < ahead o) (sym c.in-Some.is)
     (subst (λ (o : Option Ref). ahead o < suc (stamp_of c.in-Some.at)) (sym k.2.1.1) s.0)
 
 pub loop-next-preserved : goal.loop-next-preserved
@@ -69,7 +69,7 @@ loop-next-preserved g c =
       grows_on m g.N.Chunks.places c.args.nodes.now c.loop-next.nodes c.look_at_commit.new.nodes i.3
           c.look_at_commit.ensures.grown,
       subst (IfAt may) (sym k.2.1.1)
-          (basis_may may (m c.look_at_commit.new.nodes) (stamp_of c.in-Some.at) k.0.now k.1),
+          (next_may may (m c.look_at_commit.new.nodes) (stamp_of c.in-Some.at) k.0.now k.1),
     )
 
 pub look_at_commit-requires-clause-place : goal.look_at_commit-requires-clause-place

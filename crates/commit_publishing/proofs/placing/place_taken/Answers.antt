@@ -8,7 +8,7 @@ use Rattle.head_word.specs.Marks.{Known, own}
 use Rattle.reader_claims.specs.Deeds as deed
 use Rattle.reader_claims.specs.declared.view.View.{View}
 use Rattle.commit_graph.specs.Seats.{GroupId, SeatState}
-use Rattle.commit_publishing.specs.Retiring.{AreFreed, drafted as drafted_slots}
+use Rattle.commit_publishing.specs.Retiring.{AreFreed, draft_deeds as drafted_slots}
 use Rattle.commit_publishing.proofs.Numbers.{are_drawn, are_placed}
 use Rattle.commit_publishing.specs.Inside.Stacks.{Uses}
 use Rattle.commit_publishing.proofs.Leaving.{gives_placed, gives_unplaced}

@@ -2,7 +2,7 @@ use Rattle.std.proofs.Common.{◌≡◌, [], map, take}
 use Rattle.group_history.specs.Refs.{slot_of}
 use Rattle.chunk_slots.specs.Seats.{MayRetire}
 use Rattle.commit_publishing.specs.Retiring.{AreLetGo}
-use Rattle.commit_publishing.specs.Inside.Steps.{Steps}
+use Rattle.commit_publishing.specs.Inside.Steps.{StepsOn}
 use Rattle.commit_publishing.proofs.retiring.retire_at.Given as goal
 
 abbrev pub invariant-loop-at : goal.invariant-loop-at
@@ -12,7 +12,7 @@ invariant-loop-at g l =
       home : S.home l.seat ≡ S.serves l.store;
       raised : S.reused → MayRetire (S.view l.seat) l.r;
       none : S.reused → (S.view l.seat).taken ≡ [];
-      steps : S.reused → Steps (S.view l.fn.seat) (S.view l.seat);
+      steps : S.reused → StepsOn (S.view l.fn.seat) (S.view l.seat);
       retired : S.reused → AreLetGo (S.serves l.store).sizes.slots l.r (map slot_of (take l.at-index l.refs))
           (S.view l.fn.seat).deeds (S.view l.seat).deeds;
     }

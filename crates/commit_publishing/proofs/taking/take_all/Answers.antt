@@ -1,7 +1,7 @@
 use Rattle.std.proofs.Common.{◌≡◌, ◌<◌, ◌++◌, [], length, ap, subst, sym, ◌∙◌, arith, length-append}
 use Rattle.std.proofs.lemmas.List.Elements.{All-append}
 use Rattle.reader_claims.specs.Seats.{kind_end}
-use Rattle.commit_publishing.specs.Inside.Stacks.{AreBelow, Uses}
+use Rattle.commit_publishing.specs.Inside.Stacks.{AreLower, Uses}
 use Rattle.commit_publishing.proofs.Lying.{none_below, taken_below}
 use Rattle.commit_publishing.proofs.Passing.{all_shut_as, knows_withdrawn, pins_as}
 use Rattle.commit_publishing.proofs.Popping.{length_taken}
@@ -33,7 +33,7 @@ returns-in-Err-clause-given g c = λ r.
     (omega (arith, c.in-Err.ensures.few, ap length c.in_ok-slots.ensures.items)) in (
       w.taken,
       omega (arith, ap length whole, length-append back m.taken, one, few),
-      subst (AreBelow end) (sym whole) (All-append (λ i. i < end) back m.taken low held),
+      subst (AreLower end) (sym whole) (All-append (λ i. i < end) back m.taken low held),
       taken_back v w u taken only (c.requires.none r) (subst (λ is. Uses w [] is u) (sym whole) all),
     )
 

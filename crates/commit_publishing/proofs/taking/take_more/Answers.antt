@@ -3,7 +3,7 @@ use Rattle.std.specs.Prelude.{IfErr}
 use Rattle.group_history.specs.declared.refusals.Refusal.TheVariants as refusal
 use Rattle.reader_claims.specs.declared.view.View.{View}
 use Rattle.reader_claims.specs.Passes.{FindsNone, OnlyTakes}
-use Rattle.commit_publishing.specs.Inside.Stacks.{AreBelow, Uses}
+use Rattle.commit_publishing.specs.Inside.Stacks.{AreLower, Uses}
 use Rattle.reader_claims.specs.Seats.{kind_end}
 use Rattle.reader_claims.proofs.Scans.{only_takes}
 use Rattle.commit_publishing.proofs.Passing.{passed_over}
@@ -60,7 +60,7 @@ returns-in_err-take_next-clause-used g c = λ r.
     let had = c.loop-held.invariant.took r in
     let one = c.in_err-take_next.ensures.used r in
     let end = kind_end (g.S.Slots.serves c.args.store.now).sizes c.args.kind in
-    let here : (w : View) × (taken back : List ℕ) × (length back ≤ 1) × AreBelow end back × OnlyTakes first w taken
+    let here : (w : View) × (taken back : List ℕ) × (length back ≤ 1) × AreLower end back × OnlyTakes first w taken
     × Uses w [] back u = (
       one.0,
       one.1 ++ had.0,

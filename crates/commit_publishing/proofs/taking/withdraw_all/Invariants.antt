@@ -1,6 +1,6 @@
 use Rattle.std.proofs.Common.{◌≡◌, ℕ, List, [], vec_len}
 use Rattle.commit_publishing.specs.Inside.Stacks.{HasTaken, IsButWithdrawn, Uses}
-use Rattle.commit_publishing.specs.Inside.Steps.{Steps}
+use Rattle.commit_publishing.specs.Inside.Steps.{StepsOn}
 use Rattle.commit_publishing.proofs.taking.withdraw_all.Given as goal
 
 abbrev pub invariant-loop-slot : goal.invariant-loop-slot
@@ -11,7 +11,7 @@ invariant-loop-slot g l =
       taken : S.reused → HasTaken (S.view l.seat) l.slots.items;
       used : S.reused → (back : List ℕ) × Uses (S.view l.fn.seat) [] back (S.view l.seat);
       kept : S.reused → IsButWithdrawn (S.view l.fn.seat) (S.view l.seat);
-      steps : S.reused → Steps (S.view l.fn.seat) (S.view l.seat);
+      steps : S.reused → StepsOn (S.view l.fn.seat) (S.view l.seat);
     }
 
 abbrev pub decreases-loop-slot : goal.decreases-loop-slot

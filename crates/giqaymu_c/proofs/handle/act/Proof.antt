@@ -39,7 +39,7 @@ use Rattle.host_places.specs.declared.mutators.NamesMutators as NamesMutators
 use Rattle.host_places.specs.Mutators.{Meant}
 use Rattle.giqaymu_c.specs.Exports.{IsLike}
 use Rattle.giqaymu_c.specs.Jobs.{Acts, IsFit, meant_at}
-use Rattle.giqaymu_c.proofs.Values.{opaque, al, Held, ptr_good, marked, marked_good, handle_good, held_in, held_out}
+use Rattle.giqaymu_c.proofs.Values.{opaque, al, MaybeBox, ptr_good, marked, marked_good, handle_good, held_in, held_out}
 use Rattle.giqaymu_c.proofs.Values.{handle_in, handle_out, three, three_good, three_in}
 use Rattle.giqaymu_c.specs.contracts.handle.Handle as handle
 use Rattle.giqaymu_c.specs.contracts.jobs.Job as Job
@@ -115,7 +115,7 @@ act_spec {M} 𝓤 𝓛 𝓜 𝓡 wired =
     let k = triple_of 𝓛 (callee.signature marker g dict)
     (callee.spec marker g dict 𝓛 𝓜.mem 𝓡.returns) in
     let Ce = callee.ended marker g dict in
-    let d : (Held R).Denot = record { at = p; is_open = n; value = h.spot } in
+    let d : (MaybeBox R).Denot = record { at = p; is_open = n; value = h.spot } in
     let y : k.Ghost = (
       (
         (κs.0, ([], tt)),
@@ -140,11 +140,11 @@ act_spec {M} 𝓤 𝓛 𝓜 𝓡 wired =
     (met 𝓤 𝓛 𝓜 𝓡 (code.calls-giqaymu_c::spots::act_held 𝓡.env wired) marker marker_laws g dict
     (λ 𝓛' 𝓜' 𝓡' like. record {}))
     y (and_then ! (get ! refl) (and_then ! (get ! refl) (and_then ! (get ! refl) (no_more !)))) (λ u.
-    let Did : (Held R).Denot × (Held R).Denot × (JobReply.the_row).Denot
+    let Did : (MaybeBox R).Denot × (MaybeBox R).Denot × (JobReply.the_row).Denot
     → Type 0 = λ r. Acts x meant h.spot r.2 r.0.value r.1.value in
     use1 𝓛 (later
-    (some (λ (r : (Held R).Denot × (Held R).Denot × (JobReply.the_row).Denot).
-    (toks ⊛ ‵ ((Tuple (Held R ∷ Held R ∷ JobReply.the_row ∷ [])).own_val r (u ∷ []))) ⊛ some
+    (some (λ (r : (MaybeBox R).Denot × (MaybeBox R).Denot × (JobReply.the_row).Denot).
+    (toks ⊛ ‵ ((Tuple (MaybeBox R ∷ MaybeBox R ∷ JobReply.the_row ∷ [])).own_val r (u ∷ []))) ⊛ some
     (λ (ws : Lasts Ce y.0.0 y.0.3). ‵ (lasts Ce y.0.0 y.0.3 ws) ⊛ raw (fact 𝓤 (Did r))))))
     (id⊢ 𝓤 (k.post y u)) $
     await ! tt $ pick ! (λ r. split ! $ move ! (1 ∷ []) $ pick ! (λ ws. split ! $ drop ! $
@@ -159,7 +159,7 @@ act_spec {M} 𝓤 𝓛 𝓜 𝓡 wired =
     let held₁ = marked_good R p₁ n₁ flag₁ in let held₂ = marked_good R p₂ n₂ flag₂ in
     let good₁ = handle_good p₁ n₁ flag₁ in let good₂ = handle_good p₂ n₂ flag₂ in
     lands_as ! (ap only (eu ∙ (λ j. vstruct (of_list (ws₁ j ++ (ws₂ j ++ (wsT j ++ [])))) ∷ []))) refl
-    (three_good (Held R) (Held R) JobReply.the_row (marked p₁ n₁) (marked p₂ n₂) tv held₁ held₂ fitsT) $
+    (three_good (MaybeBox R) (MaybeBox R) JobReply.the_row (marked p₁ n₁) (marked p₂ n₂) tv held₁ held₂ fitsT) $
     sets ! (of_opd ! (get_in ! (fld ! refl (stop !)) (sub ! 0 refl (whole !)))) refl held₁ $
     sets ! (of_opd ! (get_in ! (fld ! refl (stop !)) (sub ! 1 refl (whole !)))) refl held₂ $
     sets ! (of_opd ! (get_in ! (fld ! refl (stop !)) (sub ! 2 refl (whole !)))) refl fitsT $

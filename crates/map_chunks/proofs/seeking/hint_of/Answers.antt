@@ -4,7 +4,7 @@ use Rattle.group_history.specs.declared.refs.Ref.{Ref}
 use Rattle.group_history.specs.Rows.{Rows, paired, keys_of, values_of}
 use Rattle.group_history.proofs.Pairs.{paired-parts}
 use Rattle.map_chunks.specs.Search.{IsPlace}
-use Rattle.map_chunks.specs.Seeking.{is_in}
+use Rattle.map_chunks.specs.Seeking.{is_key_in}
 use Rattle.map_chunks.specs.Inside.Seeking.{IsHint}
 use Rattle.map_chunks.specs.declared.looks.Hint.TheVariants.{Known, On}
 use Rattle.map_chunks.proofs.SearchLemmas.{got, length-values_of, length-keys_of}
@@ -18,8 +18,8 @@ returns-in-Leaf c =
     let same : length (values_of rows) ≡ length c.as_slice.result.now = omega
     (arith, length-keys_of rows, length-values_of rows, ap length keys) in
     subst (λ (ch : Chunk Ref). IsHint ch key (Known c.has_key.result)) (sym c.in-Leaf.is)
-    (c.has_key.ensures (values_of rows) same ∙ ap (λ w. is_in (paired w (values_of rows)) key) keys
-    ∙ ap (λ w. is_in w key) (paired-parts rows))
+    (c.has_key.ensures (values_of rows) same ∙ ap (λ w. is_key_in (paired w (values_of rows)) key) keys
+    ∙ ap (λ w. is_key_in w key) (paired-parts rows))
 
 pub returns-else-is_empty : goal.returns-else-is_empty
 returns-else-is_empty c =

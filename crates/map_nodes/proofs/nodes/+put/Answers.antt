@@ -45,7 +45,7 @@ use Rattle.map_nodes.proofs.KeptLevels.{leaf_kept-levels}
 use Rattle.map_nodes.proofs.LevelLemmas.{changed_as, inner-levels}
 use Rattle.map_nodes.proofs.PutLevels.{AreFirsts, child_put, firsts_are, if_ok_both, leaf_put_levels, put_as}
 use Rattle.map_nodes.proofs.PutLevels.{put_over}
-use Rattle.map_nodes.specs.Inside.Puts.{half_levels, value_in, ChildHalvesPut, ChildReplaced, HalvesPut, IsChildPut}
+use Rattle.map_nodes.specs.Inside.Puts.{half_levels, shown_at, ChildHalvesPut, ChildReplaced, HalvesPut, IsChildPut}
 use Rattle.map_nodes.specs.Inside.Puts.{IsHalved, IsOwnPut}
 use Rattle.map_nodes.specs.Inside.Unput.{IsUnput}
 use Rattle.map_nodes.specs.Levels.{levels_of, parting, seen_levels, topped, AreChanged, ArePut}
@@ -220,7 +220,7 @@ putting::paths::put_inner-returns-clause-put g t c =
             (body_pieces depth c.finish.new.keys.texts (Inner c.finish.new.kids) ++ half_pieces c.finish.result) key r.0
             i child lower half put.done.0 x.2.1.2 x.0 refl put.done.1 put.others is;
         renewed = inner_replaced q depth keys c.finish.new.keys.texts kids new c.finish.new.kids.items key i child
-            lower half c.finish.result (value_in (shown p pieces) key) r.0 c.requires.node.1.0 x.2.1.2 x.1 x.3
+            lower half c.finish.result (shown_at (shown p pieces) key) r.0 c.requires.node.1.0 x.2.1.2 x.1 x.3
             c.in_ok-ready.ensures.lower
             (subst (λ f. ChildReplaced q f r.0 (depth - 1) i kids new child half) same put.renewed)
             (subst (λ ks. IsHalved depth c.finish.new.keys.texts c.finish.new.kids.items c.finish.result
@@ -399,9 +399,9 @@ putting::paths::put_child-returns-in-Own-clause-put g t c x h =
     (λ answer put half filled. (
       put.0,
       subst (λ y. Makes (λ f there made. g.F.FnOnce.post f (there, tt) made) c.args.change
-          (value_in (child_rows p below y) key) (Ok (Puts put.0))) (sym e)
+          (shown_at (child_rows p below y) key) (Ok (Puts put.0))) (sym e)
           (subst (λ (s : Seen). Makes (λ f there made. g.F.FnOnce.post f (there, tt) made) c.args.change
-          (value_in (shown p s.pieces) key) (Ok (Puts put.0))) v put.1),
+          (shown_at (shown p s.pieces) key) (Ok (Puts put.0))) v put.1),
       subst (λ y. IsChildPut q copies below place first key put.0 (child_rows p below y) kids
           (set kids place (Own n)) y answer.1) (sym e)
           (own_put q copies below place first key put.0 (shown p m.value.pieces) kids m n answer.1 deep
@@ -473,9 +473,9 @@ putting::paths::put_child-returns-in-Placed-clause-put g t c x h =
     h ∙ c.in-Placed.is in (
       u.0,
       subst (λ y. Makes (λ f there made. g.F.FnOnce.post f (there, tt) made) c.args.change
-          (value_in (child_rows p below y) key) (Ok (Puts u.0))) (sym e)
+          (shown_at (child_rows p below y) key) (Ok (Puts u.0))) (sym e)
           (subst (λ z. Makes (λ f there made. g.F.FnOnce.post f (there, tt) made) c.args.change
-          (value_in z key) (Ok (Puts u.0))) same u.1),
+          (shown_at z key) (Ok (Puts u.0))) same u.1),
       subst (λ y. IsChildPut q copies below place first key u.0 (child_rows p below y) kids new y half) (sym e)
           (placed_put p q may copies below place first key u.0 kids new at n half c.put_placed.ensures.grown.0 tree
           (set-set kids place (Placed at) (Own n)) u.2 u.3),
@@ -595,14 +595,14 @@ OwnNode::put-returns-in-Leaf-clause-put g t c =
     if_ok_so c.put_leaf.result c.put_leaf.ensures.put (λ half put.
     let u = rows_put p key put.0 rows c.args.self.now.pieces new half pieces_are put.2 in (
       put.0,
-      subst (λ z. Makes (λ f there made. g.F.FnOnce.post f (there, tt) made) c.args.change (value_in z key)
+      subst (λ z. Makes (λ f there made. g.F.FnOnce.post f (there, tt) made) c.args.change (shown_at z key)
           (Ok (Puts put.0))) (sym was) put.1,
       record {
         shown_is = u.0;
         others = u.1;
         renewed = λ there.
-            let r = put.3 (subst (λ z. IsSome (value_in z key)) was there) in (
-              λ same. r.0 (ap (λ z. value_in z key) (sym was) ∙ same),
+            let r = put.3 (subst (λ z. IsSome (shown_at z key)) was there) in (
+              λ same. r.0 (ap (λ z. shown_at z key) (sym was) ∙ same),
               r.2,
               subst (λ ks. RenewedLater p c.args.self.now.depth (seen_levels c.args.self.now)
                   (λ q. levels_of q (own 0 (leaf_keys ks) ∷ [])))
@@ -643,7 +643,7 @@ OwnNode::put-returns-in-Leaf-clause-unput g t c =
     c.self.inside.body c.in-Leaf.values c.args.self.now.pieces (ap (λ (s : Seen). s.pieces) c.self.view_is)
     c.in-Leaf.is in
     subst (λ z. IfErr c.put_leaf.result (IsUnput (λ made. Makes (λ f there m. g.F.FnOnce.post f (there, tt) m)
-    c.args.change (value_in z key) made) stops (value_in z key))) (sym was)
+    c.args.change (shown_at z key) made) stops (shown_at z key))) (sym was)
     (unput_anyhow (λ made. Makes (λ f there m. g.F.FnOnce.post f (there, tt) m) c.args.change
     (finite.find (slice_cmp nat_cmp) key (paired c.self.inside.keys.texts c.in-Leaf.values.items)) made) stops _
     c.put_leaf.result c.put_leaf.ensures.unput)
@@ -696,14 +696,14 @@ OwnNode::put-returns-in-Inner-clause-put g t c =
     if_ok_so c.put_inner.result c.put_inner.ensures.put (λ half put. (
       put.0,
       subst (λ ps. Makes (λ f there made. g.F.FnOnce.post f (there, tt) made) c.args.change
-          (value_in (shown p ps) key) (Ok (Puts put.0))) view put.1,
+          (shown_at (shown p ps) key) (Ok (Puts put.0))) view put.1,
       record {
         shown_is = put.2.shown_is ∙ ap (λ ps. Some (finite.put (slice_cmp nat_cmp) key put.0
             (rows_or (shown p ps)))) view;
         others = subst (λ ps. ArePutAmong q key put.0 ps (new ++ half_pieces half)) view put.2.others;
         renewed = λ there.
-            let u = put.2.renewed (subst (λ ps. IsSome (value_in (shown p ps) key)) (sym view) there) in (
-              λ same. u.0 (ap (λ ps. value_in (shown p ps) key) view ∙ same),
+            let u = put.2.renewed (subst (λ ps. IsSome (shown_at (shown p ps) key)) (sym view) there) in (
+              λ same. u.0 (ap (λ ps. shown_at (shown p ps) key) view ∙ same),
               u.1,
               λ later pre level. subst (λ ms. AreChanged (level < c.args.self.now.depth) IsRenewed
                   (levels_of later ms level)
@@ -802,8 +802,8 @@ putting::paths::put_child-returns-in-Own-clause-unput g t c x h =
     let e : x ≡ Own c.in-Own.node = indexed_child c.args.kids.now.items c.args.here.place c.index_mut.result.now x
     c.requires.within c.index_mut.ensures.value h ∙ c.in-Own.is in
     let unput = λ (z : Option Rows). IfErr c.put_below.result (IsUnput (λ made.
-    Makes (λ f there m. g.F.FnOnce.post f (there, tt) m) c.args.change (value_in z key) made) g.C.Chunks.stops
-    (value_in z key)) in
+    Makes (λ f there m. g.F.FnOnce.post f (there, tt) m) c.args.change (shown_at z key) made) g.C.Chunks.stops
+    (shown_at z key)) in
     subst (λ y. unput (child_rows p c.args.here.depth y)) (sym e)
     (subst (λ (s : Seen). unput (shown p s.pieces)) c.deref_mut.ensures.value c.put_below.ensures.unput)
 
@@ -823,8 +823,8 @@ putting::paths::put_child-returns-in_err-ready-in-Placed-clause-unput g t c x h 
     let tree : IsTree (rows_at p below k) = subst (λ y. IsTree (child_rows p below y)) c.in-Placed.is r.0 in
     let there : chunk_rows p k ≡ child_rows p below x = rows_alone p below k tree ∙ ap (child_rows p below) (sym e) in
     let unput = λ (z : Option Rows). IsUnput (λ made.
-    Makes (λ f there m. g.F.FnOnce.post f (there, tt) m) c.args.change (value_in z key) made) g.C.Chunks.stops
-    (value_in z key) in
+    Makes (λ f there m. g.F.FnOnce.post f (there, tt) m) c.args.change (shown_at z key) made) g.C.Chunks.stops
+    (shown_at z key) in
     let why = subst (λ z. IfErr c.put_placed.result (unput z)) there c.put_placed.ensures.unput in
     handed_on c.from_residual.result c.from_residual.ensures.1
     (λ w is. subst (unput (child_rows p below x)) (sym is)
@@ -851,8 +851,8 @@ putting::paths::put_inner-returns-in_err-ready-clause-unput g t c =
     (value_below p depth keys kids pieces key i child x.0)
     (c.put_child.ensures.unput child (ap (λ w. slice_get w i) c.reserve.ensures.items ∙ x.1)) in
     handed_on c.from_residual-in_err-ready.result c.from_residual-in_err-ready.ensures.1
-    (λ w is. subst (unput (value_in (shown p pieces) key)) (sym is)
-    (subst (λ o. IfErr o (unput (value_in (shown p pieces) key))) c.in_err-ready.was why))
+    (λ w is. subst (unput (shown_at (shown p pieces) key)) (sym is)
+    (subst (λ o. IfErr o (unput (shown_at (shown p pieces) key))) c.in_err-ready.was why))
 
 -- a chunk that has an upper half was full
 was_full : (old new : ℕ) (half : Option Half) → HasKept old new half → IsSome half → 16 ≤ old

@@ -10,7 +10,7 @@ use Rattle.map_nodes.specs.Inside.Freezing.{child_places, kids_places}
 use Rattle.map_nodes.specs.Inside.Halves.{lowered}
 use Rattle.map_nodes.specs.Nodes.{kids_pieces, row_pieces, IsNode, body_marks, child_levels, kids_marks, sunk}
 use Rattle.map_nodes.specs.Inside.Nodes.{Kid, child_rows}
-use Rattle.map_nodes.specs.Removing.{without}
+use Rattle.map_nodes.specs.Removing.{without_key}
 use Rattle.map_nodes.specs.Inside.Removing.{CanRemove, HasOthers}
 use Rattle.map_chunks.specs.Search.{IsPlace}
 use Rattle.map_chunks.specs.Shown.{Seen, shown, rows_or, IsTree, leaf_keys, own}
@@ -41,8 +41,8 @@ pub OwnNode::remove-returns-in-Leaf-clause-done : goal.OwnNode::remove-returns-i
 OwnNode::remove-returns-in-Leaf-clause-done g t c =
     let p = g.C.Chunks.contents c.args.chunks.now in
     ap (λ w. shown p (row_pieces w)) c.in_ok-remove_row-in-Leaf.ensures.rows ∙ shown-rows p
-    (without c.args.key.now (paired c.self.inside.keys.texts c.in-Leaf.values.items))
-    ∙ ap (λ z. Some (without c.args.key.now (rows_or z)))
+    (without_key c.args.key.now (paired c.self.inside.keys.texts c.in-Leaf.values.items))
+    ∙ ap (λ z. Some (without_key c.args.key.now (rows_or z)))
     (sym (leaf_rows p c.self.inside.depth c.self.inside.keys.texts c.self.inside.body c.in-Leaf.values
     c.args.self.now.pieces (ap (λ (s : Seen). s.pieces) c.self.view_is) c.in-Leaf.is))
 
@@ -119,7 +119,7 @@ OwnNode::remove-returns-in-Inner-clause-done g t c =
     subst
     (λ x. OnOk c.remove_at.result (shown (g.C.Chunks.contents c.remove_at.new.chunks)
     (kids_pieces (c.self.inside.depth - 1) (paired c.remove_at.new.keys.texts c.remove_at.new.kids.items))
-    ≡ Some (without c.args.key.now (rows_or x))))
+    ≡ Some (without_key c.args.key.now (rows_or x))))
     s c.remove_at.ensures.done
 
 pub removing::paths::remove_at-returns-in-Leaves-clause-node :
@@ -209,7 +209,7 @@ removing::paths::remove_child-remove-requires g t c κs within =
                 (kid_all may kids c.args.place child r.0 c.index_mut.ensures.value c.requires.1.1.1.1.0)),
             (
               subst (λ (s : Seen). IsTree (shown p s.pieces)) (sym v) can.0,
-              subst (λ (s : Seen). 0 < length (without c.args.key.now (rows_or (shown p s.pieces)))) (sym v) can.2,
+              subst (λ (s : Seen). 0 < length (without_key c.args.key.now (rows_or (shown p s.pieces)))) (sym v) can.2,
             ),
           ),
         ),
@@ -234,8 +234,8 @@ removing::paths::remove_child-returns-in-Own-clause-done g t c x h =
       n,
       refl,
       c.remove.ensures.depth ∙ ap (λ (s : Seen). s.depth) v ∙ can.1,
-      s ∙ ap (λ (m : Seen). Some (without c.args.key.now (rows_or (shown p m.pieces)))) v ∙ ap
-          (λ y. Some (without c.args.key.now (rows_or (child_rows p c.args.below y)))) (sym e),
+      s ∙ ap (λ (m : Seen). Some (without_key c.args.key.now (rows_or (shown p m.pieces)))) v ∙ ap
+          (λ y. Some (without_key c.args.key.now (rows_or (child_rows p c.args.below y)))) (sym e),
       subst (λ y. ShrunkLater q c.args.below (child_levels c.args.below y) (seen_levels c.remove.new.self)) (sym e)
           (subst (λ d. ShrunkLater q d (seen_levels c.in-Own.node.value) (seen_levels c.remove.new.self)) can.1
           (subst (λ (s : Seen). ShrunkLater q s.depth (seen_levels s) (seen_levels c.remove.new.self)) v l)),
@@ -285,8 +285,8 @@ removing::paths::remove_child-remove-requires-in-Placed g t c κs within =
             (
               subst (λ (s : Seen). IsTree (shown q s.pieces)) (sym v)
                   (subst IsTree (sym c.in_ok-node-in-Placed.ensures.rows) can.0),
-              subst (λ (s : Seen). 0 < length (without c.args.key.now (rows_or (shown q s.pieces)))) (sym v)
-                  (subst (λ z. 0 < length (without c.args.key.now (rows_or z)))
+              subst (λ (s : Seen). 0 < length (without_key c.args.key.now (rows_or (shown q s.pieces)))) (sym v)
+                  (subst (λ z. 0 < length (without_key c.args.key.now (rows_or z)))
                   (sym c.in_ok-node-in-Placed.ensures.rows) can.2),
             ),
           ),
@@ -310,7 +310,7 @@ removing::paths::remove_child-returns-in-Placed-clause-done g t c x h =
       set-set kids c.args.place (Placed c.in-Placed.at) (Own n),
       c.remove-in-Placed.ensures.depth ∙ ap (λ (s : Seen). s.depth) v ∙ c.in_ok-node-in-Placed.ensures.depth,
       c.in_ok-remove-in-Placed.ensures.done
-          ∙ ap (λ z. Some (without c.args.key.now (rows_or z)))
+          ∙ ap (λ z. Some (without_key c.args.key.now (rows_or z)))
           (ap (λ (s : Seen). shown q s.pieces) v ∙ c.in_ok-node-in-Placed.ensures.rows ∙ ap
           (child_rows p c.args.below) (sym e)),
       λ later pre. subst (λ y. AreShrunk c.args.below (child_levels c.args.below y later)

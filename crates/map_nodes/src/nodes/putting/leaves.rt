@@ -20,7 +20,7 @@ use super::super::homes::housed;
 use super::super::{Body, OwnNode};
 use super::splits::{SplitBuffers, take_half_room};
 use super::{Half, Put, PutRefused};
-use crate::changes::Change;
+use crate::changes::ValueChange;
 use group_history::{Json, Stop, Text, Update};
 use map_chunks::entries::{MOST, insert_entry, make_room};
 use map_chunks::keys::NodeKeys;
@@ -62,7 +62,7 @@ pub(crate) fn put_leaf<F: FnOnce(Option<Json>) -> Result<Update, Stop>>(
     keys: &mut NodeKeys,
     values: &mut Vec<Json>,
     put: Put<'_>,
-    change: Change<F>,
+    change: ValueChange<F>,
 ) -> Result<Option<Half>, PutRefused>
     requires keys { AreKeys keys.old.texts }
     requires pairs { length values.old.items ≡ length keys.old.texts }

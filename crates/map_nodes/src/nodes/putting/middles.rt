@@ -5,7 +5,7 @@ ghost use Rattle.group_history.specs.Map.{Bytes};
 ghost use Rattle.group_history.specs.Rows.{keys_of, paired, values_of};
 ghost use Rattle.map_nodes.specs.Inside.Halves.{IsHalf, with_half, lowered, Finished};
 ghost use Rattle.map_nodes.specs.Inside.Counts.{HasKept};
-ghost use Rattle.map_nodes.specs.Inside.Ready.{AreNinthIn, HasRoomIn, Fits};
+ghost use Rattle.map_nodes.specs.Inside.Ready.{AreNinthIn, HasRoomIn, Suits};
 ghost use Rattle.map_nodes.specs.Inside.Puts.{IsHalved};
 
 use super::super::homes::housed;
@@ -45,7 +45,7 @@ pub(crate) fn finish(
     depth: u64,
     split: ChildSplit,
 ) -> Option<Half>
-    requires fits { Fits depth split.place keys.old.texts kids.old.items split.half }
+    requires fits { Suits depth split.place keys.old.texts kids.old.items split.half }
     requires kids_room { vec_len kids.old < vec_capacity kids.old }
     requires keys_room { IsSome split.half → 0 < keys.old.room }
     requires room { IsSome split.half → HasRoomIn (length keys.old.texts) split.room }

@@ -18,11 +18,11 @@ ghost use Rattle.map_nodes.specs.Changes.{CanMake, Makes};
 ghost use Rattle.map_nodes.specs.Nodes.{IsNode, body_levels, body_pieces};
 ghost use Rattle.map_nodes.specs.Inside.Nodes.{child_rows};
 ghost use Rattle.map_nodes.specs.Inside.Halves.{half_pieces, IsHalf, IsLower, HasDepth};
-ghost use Rattle.map_nodes.specs.Inside.Laying.{IsMade, IsReached};
+ghost use Rattle.map_nodes.specs.Inside.Laying.{IsBuilt, IsChunkEnd};
 ghost use Rattle.map_nodes.specs.Inside.Ready.{IsReady};
 ghost use Rattle.map_nodes.specs.Inside.Counts.{HasKept};
-ghost use Rattle.map_nodes.specs.Inside.Puts.{half_levels, value_in, ChildHalvesPut, HalvesPut, IsChildPut, IsOwnPut};
-ghost use Rattle.map_nodes.specs.Inside.Unput.{IsTold, IsUnput};
+ghost use Rattle.map_nodes.specs.Inside.Puts.{half_levels, shown_at, ChildHalvesPut, HalvesPut, IsChildPut, IsOwnPut};
+ghost use Rattle.map_nodes.specs.Inside.Unput.{IsUnputTold, IsUnput};
 ghost use Rattle.map_nodes.specs.Levels.{seen_levels, ArePut};
 ghost use Rattle.map_nodes.specs.declared.nodes.Body.TheVariants as body;
 ghost use Rattle.map_nodes.specs.declared.nodes.OwnChild.{OwnChild as Childs};
@@ -34,7 +34,7 @@ use super::below::PutBuffers;
 use super::leaves::put_leaf;
 use super::middles::{ChildSplit, finish, lower_first};
 use super::{Half, Put, PutRefused};
-use crate::changes::Change;
+use crate::changes::ValueChange;
 use group_history::{Json, Ref, Stop, Update};
 use map_chunks::Chunks;
 use map_chunks::entries::MOST;
@@ -63,7 +63,7 @@ fn put_inner<C: Chunks, F: FnOnce(Option<Json>) -> Result<Update, Stop>>(
     kids: &mut Vec<OwnChild>,
     chunks: &mut C,
     here: PutIn<'_>,
-    change: Change<F>,
+    change: ValueChange<F>,
 ) -> Result<Option<Half>, PutRefused>
     requires places { AreAll (C.places chunks.old)
         (places_of (body_pieces here.depth keys.old.texts (body.Inner kids.old))) }
@@ -74,7 +74,7 @@ fn put_inner<C: Chunks, F: FnOnce(Option<Json>) -> Result<Update, Stop>>(
     requires callable { CanMake (λ f. F.IsAlwaysCallable f) change }
     ensures grown { Grows C.contents C.places chunks.old chunks.new }
     ensures node { IsNode here.entry.depth keys.new.texts (body.Inner kids.new) }
-    ensures put { IfOk result (λ half. (v : Bytes) × Makes (λ f x r. F.post f x r) change (value_in
+    ensures put { IfOk result (λ half. (v : Bytes) × Makes (λ f x r. F.post f x r) change (shown_at
         (shown (C.contents chunks.old) (body_pieces here.entry.depth keys.old.texts (body.Inner kids.old)))
         here.entry.put.key.now)
         (Ok (Puts v)) × IsOwnPut (C.contents chunks.new) here.entry.put.key.now v
@@ -94,10 +94,10 @@ fn put_inner<C: Chunks, F: FnOnce(Option<Json>) -> Result<Update, Stop>>(
         ++ half_levels half later level)) }
     ensures filled { OnOk result (0 < length (body_pieces here.entry.depth keys.new.texts (body.Inner kids.new))) }
     ensures err { OnErr result ((keys.new.texts ≡ keys.old.texts) × (kids.new.items ≡ kids.old.items)) }
-    ensures unput { IfErr result (IsUnput (λ made. Makes (λ f x r. F.post f x r) change (value_in
+    ensures unput { IfErr result (IsUnput (λ made. Makes (λ f x r. F.post f x r) change (shown_at
         (shown (C.contents chunks.old) (body_pieces here.entry.depth keys.old.texts (body.Inner kids.old)))
         here.entry.put.key.now) made)
-        C.stops (value_in (shown (C.contents chunks.old)
+        C.stops (shown_at (shown (C.contents chunks.old)
         (body_pieces here.entry.depth keys.old.texts (body.Inner kids.old))) here.entry.put.key.now)) }
 {
     let PutIn { put, depth } = here;
@@ -124,7 +124,7 @@ fn put_child<C: Chunks, F: FnOnce(Option<Json>) -> Result<Update, Stop>>(
     kids: &mut Vec<OwnChild>,
     chunks: &mut C,
     here: PutBelow<'_>,
-    change: Change<F>,
+    change: ValueChange<F>,
 ) -> Result<(PutBuffers, Option<Half>), PutRefused>
     requires places { AreAll (C.places chunks.old) (kids_places kids.old.items) }
     requires within { here.place < length kids.old.items }
@@ -136,7 +136,7 @@ fn put_child<C: Chunks, F: FnOnce(Option<Json>) -> Result<Update, Stop>>(
     ensures grown { Grows C.contents C.places chunks.old chunks.new }
     ensures put { (c : Childs) → slice_get kids.old.items here.entry.place ≡ Some c
         → IfOk result (λ r. (v : Bytes) × Makes (λ f x r. F.post f x r) change
-        (value_in (child_rows (C.contents chunks.old) here.entry.depth c) here.entry.put.key.now) (Ok (Puts v))
+        (shown_at (child_rows (C.contents chunks.old) here.entry.depth c) here.entry.put.key.now) (Ok (Puts v))
         × IsChildPut (C.contents chunks.new) (here.entry.put.copies + 1) here.entry.depth here.entry.place
         (slice_index_or keys.old.texts here.entry.place []) here.entry.put.key.now v
         (child_rows (C.contents chunks.old) here.entry.depth c)
@@ -157,8 +157,8 @@ fn put_child<C: Chunks, F: FnOnce(Option<Json>) -> Result<Update, Stop>>(
     ensures err { OnErr result (kids.new.items ≡ kids.old.items) }
     ensures unput { (c : Childs) → slice_get kids.old.items here.entry.place ≡ Some c
         → IfErr result (IsUnput (λ made. Makes (λ f x r. F.post f x r) change
-        (value_in (child_rows (C.contents chunks.old) here.entry.depth c) here.entry.put.key.now) made) C.stops
-        (value_in (child_rows (C.contents chunks.old) here.entry.depth c) here.entry.put.key.now)) }
+        (shown_at (child_rows (C.contents chunks.old) here.entry.depth c) here.entry.put.key.now) made) C.stops
+        (shown_at (child_rows (C.contents chunks.old) here.entry.depth c) here.entry.put.key.now)) }
 {
     let PutBelow {
         put,
@@ -181,7 +181,7 @@ fn put_placed<C: Chunks, F: FnOnce(Option<Json>) -> Result<Update, Stop>>(
     at: Ref,
     chunks: &mut C,
     here: PutBelow<'_>,
-    change: Change<F>,
+    change: ValueChange<F>,
 ) -> Result<(PutBuffers, Box<OwnNode>, Option<Half>), PutRefused>
     requires may { C.places chunks.old at }
     requires tree { IsTree (chunk_rows (C.contents chunks.old) (stamp_of at)) }
@@ -192,9 +192,9 @@ fn put_placed<C: Chunks, F: FnOnce(Option<Json>) -> Result<Update, Stop>>(
     ensures grown { Grows C.contents C.places chunks.old chunks.new }
     ensures put { (d : ℕ) → chunk_depth (C.contents chunks.old) (stamp_of at) ≡ Some d
         → IfOk result (λ r. (v : Bytes) × Makes (λ f x r. F.post f x r) change
-        (value_in (chunk_rows (C.contents chunks.old) (stamp_of at)) here.entry.put.key.now) (Ok (Puts v))
-        × (value_in (chunk_rows (C.contents chunks.old) (stamp_of at)) here.entry.put.key.now ≡ Some v → ⊥)
-        × IsMade (C.contents chunks.new) (C.places chunks.new) (here.entry.put.copies + 1) (stamp_of at) d
+        (shown_at (chunk_rows (C.contents chunks.old) (stamp_of at)) here.entry.put.key.now) (Ok (Puts v))
+        × (shown_at (chunk_rows (C.contents chunks.old) (stamp_of at)) here.entry.put.key.now ≡ Some v → ⊥)
+        × IsBuilt (C.contents chunks.new) (C.places chunks.new) (here.entry.put.copies + 1) (stamp_of at) d
         (rows_or (chunk_rows (C.contents chunks.old) (stamp_of at))) here.entry.put.key.now v r.1.value r.2) }
     ensures texts { keys.new.texts ≡ keys.old.texts }
     ensures lowers { IfOk result (λ r. IsSome r.0.lower → 0 < keys.new.room) }
@@ -204,8 +204,8 @@ fn put_placed<C: Chunks, F: FnOnce(Option<Json>) -> Result<Update, Stop>>(
         → IsReady here.entry.put.copies keys.old.texts keys.new.room here.entry.place here.entry.put.key.now
         r.0.room) }
     ensures unput { IfErr result (IsUnput (λ made. Makes (λ f x r. F.post f x r) change
-        (value_in (chunk_rows (C.contents chunks.old) (stamp_of at)) here.entry.put.key.now) made) C.stops
-        (value_in (chunk_rows (C.contents chunks.old) (stamp_of at)) here.entry.put.key.now)) }
+        (shown_at (chunk_rows (C.contents chunks.old) (stamp_of at)) here.entry.put.key.now) made) C.stops
+        (shown_at (chunk_rows (C.contents chunks.old) (stamp_of at)) here.entry.put.key.now)) }
 {
     let PutBelow {
         put,
@@ -221,7 +221,7 @@ fn change_placed<C: Chunks, F: FnOnce(Option<Json>) -> Result<Update, Stop>>(
     at: Ref,
     chunks: &mut C,
     put: Put<'_>,
-    change: Change<F>,
+    change: ValueChange<F>,
 ) -> Result<Reached, Stop>
     requires may { C.places chunks.old at }
     requires tree { IsTree (chunk_rows (C.contents chunks.old) (stamp_of at)) }
@@ -229,12 +229,12 @@ fn change_placed<C: Chunks, F: FnOnce(Option<Json>) -> Result<Update, Stop>>(
         → put.copies + 1 + d < 2 ^ 64 }
     requires callable { CanMake (λ f. F.IsAlwaysCallable f) change }
     ensures grown { Grows C.contents C.places chunks.old chunks.new }
-    ensures reached { IfOk result (λ r. (u : Updates) × Makes (λ f x r. F.post f x r) change (value_in
-        (chunk_rows (C.contents chunks.old) (stamp_of at)) put.entry.key.now) (Ok u) × ((l : Layings) × IsReached
+    ensures reached { IfOk result (λ r. (u : Updates) × Makes (λ f x r. F.post f x r) change (shown_at
+        (chunk_rows (C.contents chunks.old) (stamp_of at)) put.entry.key.now) (Ok u) × ((l : Layings) × IsChunkEnd
         (C.contents chunks.new) (C.places chunks.new) (put.entry.copies + 1) false (stamp_of at)
         (chunk_depth (C.contents chunks.old) (stamp_of at))
         (rows_or (chunk_rows (C.contents chunks.old) (stamp_of at))) put.entry.key.now u r l)) }
-    ensures stopped { IfErr result (λ e. (e ≡ NoMemory) ⊎ C.stops e ⊎ Makes (λ f x r. F.post f x r) change (value_in
+    ensures stopped { IfErr result (λ e. (e ≡ NoMemory) ⊎ C.stops e ⊎ Makes (λ f x r. F.post f x r) change (shown_at
         (chunk_rows (C.contents chunks.old) (stamp_of at)) put.entry.key.now) (Err e)) }
 {
     let down = Down {
@@ -263,7 +263,7 @@ fn taken_up(
     ensures lower { IfOk result (λ r. IsLower put.entry.key.now (slice_index_or keys.old.texts place []) r.0.lower) }
     ensures ready { IfOk result (λ r. IsSome r.2
         → IsReady put.entry.copies keys.old.texts keys.new.room place put.entry.key.now r.0.room) }
-    ensures told { IfErr result (IsTold reached) }
+    ensures told { IfErr result (IsUnputTold reached) }
 {
     match reached {
         Reached::Grown(node, half) => {
@@ -286,7 +286,7 @@ impl OwnNode {
         place: usize,
         chunks: &mut C,
         put: Put<'_>,
-        change: Change<F>,
+        change: ValueChange<F>,
     ) -> Result<(PutBuffers, Option<Half>), PutRefused>
         requires places { AreAll (C.places chunks.old) (places_of self.old.pieces) }
         requires tree { IsTree (shown (C.contents chunks.old) self.old.pieces) }
@@ -295,7 +295,7 @@ impl OwnNode {
         requires callable { CanMake (λ f. F.IsAlwaysCallable f) change }
         ensures grown { Grows C.contents C.places chunks.old chunks.new }
         ensures depth { self.new.depth ≡ self.old.depth }
-        ensures put { IfOk result (λ r. (v : Bytes) × Makes (λ f x r. F.post f x r) change (value_in
+        ensures put { IfOk result (λ r. (v : Bytes) × Makes (λ f x r. F.post f x r) change (shown_at
             (shown (C.contents chunks.old) self.old.pieces) put.entry.key.now) (Ok (Puts v))
             × IsOwnPut (C.contents chunks.new) put.entry.key.now v (shown (C.contents chunks.old) self.old.pieces)
             self.old.pieces self.new.pieces self.old.depth (seen_levels self.old)
@@ -313,8 +313,8 @@ impl OwnNode {
             → IsReady put.entry.copies keys.old.texts keys.new.room place put.entry.key.now r.0.room) }
         ensures err { OnErr result (self.new ≡ self.old) }
         ensures unput { IfErr result (IsUnput (λ made. Makes (λ f x r. F.post f x r) change
-            (value_in (shown (C.contents chunks.old) self.old.pieces) put.entry.key.now) made) C.stops
-            (value_in (shown (C.contents chunks.old) self.old.pieces) put.entry.key.now)) }
+            (shown_at (shown (C.contents chunks.old) self.old.pieces) put.entry.key.now) made) C.stops
+            (shown_at (shown (C.contents chunks.old) self.old.pieces) put.entry.key.now)) }
     {
         let may_split = self.keys.as_slice().len() >= MOST;
         let ready = PutBuffers::of_child(keys, put, place, may_split)?;
@@ -335,7 +335,7 @@ impl OwnNode {
         &mut self,
         chunks: &mut C,
         put: Put<'_>,
-        change: Change<F>,
+        change: ValueChange<F>,
     ) -> Result<Option<Half>, PutRefused>
         requires places { AreAll (C.places chunks.old) (places_of self.old.pieces) }
         requires tree { IsTree (shown (C.contents chunks.old) self.old.pieces) }
@@ -343,7 +343,7 @@ impl OwnNode {
         requires callable { CanMake (λ f. F.IsAlwaysCallable f) change }
         ensures grown { Grows C.contents C.places chunks.old chunks.new }
         ensures depth { self.new.depth ≡ self.old.depth }
-        ensures put { IfOk result (λ half. (v : Bytes) × Makes (λ f x r. F.post f x r) change (value_in
+        ensures put { IfOk result (λ half. (v : Bytes) × Makes (λ f x r. F.post f x r) change (shown_at
             (shown (C.contents chunks.old) self.old.pieces) put.entry.key.now) (Ok (Puts v))
             × IsOwnPut (C.contents chunks.new) put.entry.key.now v (shown (C.contents chunks.old) self.old.pieces)
             self.old.pieces self.new.pieces self.old.depth (seen_levels self.old)
@@ -356,8 +356,8 @@ impl OwnNode {
         ensures filled { OnOk result (0 < length self.new.pieces) }
         ensures err { OnErr result (self.new ≡ self.old) }
         ensures unput { IfErr result (IsUnput (λ made. Makes (λ f x r. F.post f x r) change
-            (value_in (shown (C.contents chunks.old) self.old.pieces) put.entry.key.now) made) C.stops
-            (value_in (shown (C.contents chunks.old) self.old.pieces) put.entry.key.now)) }
+            (shown_at (shown (C.contents chunks.old) self.old.pieces) put.entry.key.now) made) C.stops
+            (shown_at (shown (C.contents chunks.old) self.old.pieces) put.entry.key.now)) }
     {
         match &mut self.body {
             Body::Leaf(values) => {

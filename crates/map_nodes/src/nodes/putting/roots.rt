@@ -13,8 +13,8 @@ ghost use Rattle.map_chunks.specs.Places.{Grows, AreAll, places_of};
 ghost use Rattle.map_chunks.specs.Shown.{own, child_keys, shown, IsTree, rows_or};
 ghost use Rattle.map_nodes.specs.Nodes.{HeadIs, sunk};
 ghost use Rattle.map_nodes.specs.Inside.Halves.{half_pieces, IsHalf, least, AreInOrder, HeadsBoth, IsTopped};
-ghost use Rattle.map_nodes.specs.Inside.Puts.{value_in};
-ghost use Rattle.map_nodes.specs.Inside.Rising.{CanRise, IsTaken};
+ghost use Rattle.map_nodes.specs.Inside.Puts.{shown_at};
+ghost use Rattle.map_nodes.specs.Inside.Rising.{CanRise, IsAboveTaken};
 ghost use Rattle.map_nodes.specs.Inside.Unput.{IsAnswer, IsUnput};
 ghost use Rattle.map_nodes.specs.Changes.{CanMake, Makes};
 ghost use Rattle.map_nodes.specs.Updating.{IsPutOn, IsPutOr};
@@ -22,7 +22,7 @@ ghost use Rattle.map_nodes.specs.Updating.{IsPutOn, IsPutOr};
 use super::super::homes::{housed, take_home};
 use super::super::{Body, OwnChild, OwnNode};
 use super::{Half, Put, PutRefused};
-use crate::changes::Change;
+use crate::changes::ValueChange;
 use group_history::{Json, Ran, SearchKey, Stop, Text, Update};
 use map_chunks::Chunks;
 use map_chunks::entries::{MOST, SpareChunk, take_spare};
@@ -65,7 +65,7 @@ struct Above {
 
 // All of it, where the chunk with these keys may be split.
 fn take_above(alloc: Global, keys: &[Text], key: &Text) -> Result<Above, AllocError>
-    ensures { IfOk result (IsTaken (length keys.now) (least key.now keys.now)) }
+    ensures { IfOk result (IsAboveTaken (length keys.now) (least key.now keys.now)) }
 {
     let first = least_key(keys, key)?;
     let spare = take_spare(alloc, keys.len())?;
@@ -137,17 +137,17 @@ impl OwnNode {
         alloc: Global,
         chunks: &mut C,
         key: &Text,
-        change: Change<F>,
+        change: ValueChange<F>,
     ) -> Result<Ran, Stop>
         requires places { AreAll (C.places chunks.old) (places_of self.old.pieces) }
         requires tree { IsTree (shown (C.contents chunks.old) self.old.pieces) }
         requires callable { CanMake (λ f. F.IsAlwaysCallable f) change }
         ensures grown { Grows C.contents C.places chunks.old chunks.new }
-        ensures put { IfOk result (λ ran. (u : Updates) × Makes (λ f x r. F.post f x r) change (value_in
+        ensures put { IfOk result (λ ran. (u : Updates) × Makes (λ f x r. F.post f x r) change (shown_at
             (shown (C.contents chunks.old) self.old.pieces) key.now) (Ok u) × IsPutOr (C.contents chunks.old)
             (C.contents chunks.new) (C.places chunks.new) key.now self.old self.new u ran) }
         ensures err { OnErr result (self.new ≡ self.old) }
-        ensures stopped { IfErr result (λ s. (s ≡ NoMemory) ⊎ C.stops s ⊎ Makes (λ f x r. F.post f x r) change (value_in
+        ensures stopped { IfErr result (λ s. (s ≡ NoMemory) ⊎ C.stops s ⊎ Makes (λ f x r. F.post f x r) change (shown_at
             (shown (C.contents chunks.old) self.old.pieces) key.now) (Err s)) }
     {
         // No memory holds a tree so deep.
@@ -178,7 +178,7 @@ impl OwnNode {
         &mut self,
         chunks: &mut C,
         put: Put<'_>,
-        change: Change<F>,
+        change: ValueChange<F>,
     ) -> Result<(), PutRefused>
         requires places { AreAll (C.places chunks.old) (places_of self.old.pieces) }
         requires tree { IsTree (shown (C.contents chunks.old) self.old.pieces) }
@@ -186,14 +186,14 @@ impl OwnNode {
         requires depth { self.old.depth + 1 < 2 ^ 64 }
         requires callable { CanMake (λ f. F.IsAlwaysCallable f) change }
         ensures grown { Grows C.contents C.places chunks.old chunks.new }
-        ensures put { OnOk result ((v : Bytes) × Makes (λ f x r. F.post f x r) change (value_in
+        ensures put { OnOk result ((v : Bytes) × Makes (λ f x r. F.post f x r) change (shown_at
             (shown (C.contents chunks.old) self.old.pieces) put.entry.key.now) (Ok (Puts v))
             × IsPutOn (C.contents chunks.old) (C.contents chunks.new) (C.places chunks.new) put.entry.key.now v self.old
             self.new) }
         ensures err { OnErr result (self.new ≡ self.old) }
         ensures unput { IfErr result (IsUnput (λ made. Makes (λ f x r. F.post f x r) change
-            (value_in (shown (C.contents chunks.old) self.old.pieces) put.entry.key.now) made) C.stops
-            (value_in (shown (C.contents chunks.old) self.old.pieces) put.entry.key.now)) }
+            (shown_at (shown (C.contents chunks.old) self.old.pieces) put.entry.key.now) made) C.stops
+            (shown_at (shown (C.contents chunks.old) self.old.pieces) put.entry.key.now)) }
     {
         let above = take_above(put.alloc, self.keys.as_slice(), put.key)?;
         let half = self.put(chunks, put, change)?;

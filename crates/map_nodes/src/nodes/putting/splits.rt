@@ -1,7 +1,7 @@
 //! What the upper half of a chunk needs, taken before anything changes.
 ghost use Rattle.std.specs.Prelude.{length, IfOk};
 ghost use Rattle.map_nodes.specs.Inside.Halves.{AreNinth};
-ghost use Rattle.map_nodes.specs.Inside.Ready.{HasRoom, IsOpened};
+ghost use Rattle.map_nodes.specs.Inside.Ready.{HasRoom, IsRoomTaken};
 
 use super::super::homes::take_home;
 use super::super::{OwnChild, OwnNode};
@@ -45,7 +45,7 @@ impl SplitBuffers<OwnChild> {
         taken: Option<Box<SplitBuffers<OwnChild>>>,
         alloc: Global,
     ) -> SplitBuffers<OwnChild>
-        ensures { IsOpened taken result }
+        ensures { IsRoomTaken taken result }
     {
         if let Some(taken) = taken {
             return Box::into_inner(taken);

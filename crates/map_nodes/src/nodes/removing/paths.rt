@@ -7,8 +7,8 @@ ghost use Rattle.map_nodes.specs.Inside.Halves.{lowered};
 ghost use Rattle.map_nodes.specs.Levels.{seen_levels, ShrunkLater};
 ghost use Rattle.map_nodes.specs.Nodes.{IsNode, body_levels, body_pieces};
 ghost use Rattle.map_nodes.specs.Inside.Nodes.{ChildChanged, child_rows};
-ghost use Rattle.map_nodes.specs.Removing.{without};
-ghost use Rattle.map_nodes.specs.Inside.Removing.{HasOthers, AreLeft, CanRemove, CanRemoveAt, IsLeafLeft};
+ghost use Rattle.map_nodes.specs.Removing.{without_key};
+ghost use Rattle.map_nodes.specs.Inside.Removing.{HasOthers, AreKidsLeft, CanRemove, CanRemoveAt, IsLeafLeft};
 ghost use Rattle.map_chunks.specs.Places.{Grows, AreAll, AreKept, places_of};
 ghost use Rattle.map_nodes.specs.Inside.Freezing.{kids_places};
 ghost use Rattle.map_chunks.specs.Shown.{shown, IsTree, rows_or};
@@ -35,7 +35,7 @@ pub(super) fn remove_row(
     requires keys { AreKeys keys.old.texts }
     requires pairs { length values.old.items ≡ length keys.old.texts }
     ensures rows { OnOk result (paired keys.new.texts values.new.items
-        ≡ without key.now (paired keys.old.texts values.old.items)) }
+        ≡ without_key key.now (paired keys.old.texts values.old.items)) }
     ensures keys { AreKeys keys.new.texts }
     ensures left { OnOk result (IsLeafLeft keys.old.texts keys.new.texts) }
     ensures pairs { length values.new.items ≡ length keys.new.texts }
@@ -84,7 +84,7 @@ fn remove_child<C: Chunks>(
     ensures grown { Grows C.contents C.places chunks.old chunks.new }
     ensures done { (c : Childs) → slice_get kids.old.items place ≡ Some c
         → OnOk result (ChildChanged (C.contents chunks.new) below place kids.old.items kids.new.items c
-        (Some (without key.now (rows_or (child_rows (C.contents chunks.old) below c))))) }
+        (Some (without_key key.now (rows_or (child_rows (C.contents chunks.old) below c))))) }
     ensures places { OnOk result (AreKept (C.places chunks.new) (kids_places kids.old.items)
         (kids_places kids.new.items)) }
     ensures err { OnErr result (kids.new.items ≡ kids.old.items) }
@@ -118,14 +118,14 @@ pub(super) fn remove_at<C: Chunks>(
     ensures grown { Grows C.contents C.places chunks.old chunks.new }
     ensures node { IsNode depth keys.new.texts (body.Inner kids.new) }
     ensures done { OnOk result (shown (C.contents chunks.new) (body_pieces depth keys.new.texts (body.Inner kids.new))
-        ≡ Some (without removal.entry.key.now (rows_or (shown (C.contents chunks.old)
+        ≡ Some (without_key removal.entry.key.now (rows_or (shown (C.contents chunks.old)
         (body_pieces depth keys.old.texts (body.Inner kids.old)))))) }
     ensures places { OnOk result (AreKept (C.places chunks.new) (kids_places kids.old.items)
         (kids_places kids.new.items)) }
     ensures levels { OnOk result (ShrunkLater (C.contents chunks.new) depth
         (body_levels depth keys.old.texts (body.Inner kids.old))
         (body_levels depth keys.new.texts (body.Inner kids.new))) }
-    ensures left { OnOk result (AreLeft removal.entry.fate (length keys.old.texts) (length keys.new.texts)) }
+    ensures left { OnOk result (AreKidsLeft removal.entry.fate (length keys.old.texts) (length keys.new.texts)) }
     ensures err { OnErr result ((keys.new.texts ≡ keys.old.texts) × (kids.new.items ≡ kids.old.items)) }
     ensures stopped { IfErr result (λ s. (s ≡ NoMemory) ⊎ C.stops s) }
 {
@@ -151,11 +151,11 @@ impl OwnNode {
     fn remove<C: Chunks>(&mut self, alloc: Global, chunks: &mut C, key: &str) -> Result<(), Stop>
         requires places { AreAll (C.places chunks.old) (places_of self.old.pieces) }
         requires tree { IsTree (shown (C.contents chunks.old) self.old.pieces) }
-        requires more { 0 < length (without key.now (rows_or (shown (C.contents chunks.old) self.old.pieces))) }
+        requires more { 0 < length (without_key key.now (rows_or (shown (C.contents chunks.old) self.old.pieces))) }
         ensures grown { Grows C.contents C.places chunks.old chunks.new }
         ensures depth { self.new.depth ≡ self.old.depth }
         ensures done { OnOk result (shown (C.contents chunks.new) self.new.pieces
-            ≡ Some (without key.now (rows_or (shown (C.contents chunks.old) self.old.pieces)))) }
+            ≡ Some (without_key key.now (rows_or (shown (C.contents chunks.old) self.old.pieces)))) }
         ensures places { OnOk result (AreKept (C.places chunks.new) (places_of self.old.pieces)
             (places_of self.new.pieces)) }
         ensures levels { OnOk result (ShrunkLater (C.contents chunks.new) self.old.depth (seen_levels self.old)

@@ -5,7 +5,7 @@ ghost use Rattle.std.specs.List.{remove};
 ghost use Rattle.group_history.specs.Rows.{AreKeys, paired};
 ghost use Rattle.group_history.specs.declared.mutators.Stop.TheVariants.{NoMemory};
 ghost use Rattle.map_nodes.specs.Inside.Ends as ends;
-ghost use Rattle.map_nodes.specs.Inside.Ends.{end_of_pieces, IsEndBelow, IsKidBelow, IsKidEnd, IsTaken, IfEndsAt};
+ghost use Rattle.map_nodes.specs.Inside.Ends.{end_of_pieces, IsEndBelow, IsKidBelow, IsKidEnd, IsEndTaken, IfEndsAt};
 ghost use Rattle.map_nodes.specs.Inside.Ends.{NarrowsLater};
 ghost use Rattle.map_nodes.specs.Levels.{seen_levels};
 ghost use Rattle.map_nodes.specs.Nodes.{IsNode, body_levels, body_pieces, child_levels};
@@ -17,9 +17,9 @@ ghost use Rattle.map_nodes.specs.declared.nodes.Body.TheVariants as body;
 ghost use Rattle.map_nodes.specs.declared.nodes.removing.NewRoot.TheVariants as heirs;
 ghost use Rattle.group_history.specs.declared.refs.Ref.{Ref as Reference};
 ghost use Rattle.map_nodes.specs.Inside.Removing as removals;
-ghost use Rattle.map_nodes.specs.Removing.{root_left, without, root_rows, IsRootRemoved, IsWideRoot};
+ghost use Rattle.map_nodes.specs.Removing.{root_left, without_key, root_rows, IsRootRemoved, IsWideRoot};
 ghost use Rattle.map_nodes.specs.Inside.Removing.{end_places, heir_places, left_places, left_rows, one_shown};
-ghost use Rattle.map_nodes.specs.Inside.Removing.{CanRemoveAt, IsHeir, KeptBy, IsWideLeft, IsFirstAt, HeirNarrows};
+ghost use Rattle.map_nodes.specs.Inside.Removing.{CanRemoveAt, IsHeir, KeptBy, IsWideLeft, IsFirstShown, HeirNarrows};
 ghost use Rattle.map_nodes.specs.Inside.Removing.{IsLeafLeft, IsRootLeft};
 ghost use Rattle.map_nodes.specs.Inside.Halves.{HasDepth};
 ghost use Rattle.map_nodes.specs.Inside.Scanning.{kid_shown};
@@ -92,7 +92,7 @@ impl OwnNode {
 #[cycle(taken)]
 fn taken(kid: OwnChild, alloc: Global) -> OwnNode
     requires { ends.end_of kid ≡ None }
-    ensures { IsTaken kid result }
+    ensures { IsEndTaken kid result }
 {
     match kid {
         OwnChild::Own(node) => return Box::into_inner(node).narrowed(alloc),
@@ -153,7 +153,7 @@ fn heir<C: Chunks>(
     requires tree { IsSome (one_shown (C.contents chunks.old) (remove kids.old.items place)) }
     ensures grown { Grows C.contents C.places chunks.old chunks.new }
     ensures heir { IfOk result (IsHeir (C.contents chunks.old) (C.contents chunks.new) (remove kids.old.items place)) }
-    ensures levels { (below : ℕ) → IsFirstAt (C.contents chunks.old) below (remove kids.old.items place)
+    ensures levels { (below : ℕ) → IsFirstShown (C.contents chunks.old) below (remove kids.old.items place)
         → IfOk result (HeirNarrows (C.contents chunks.new) below (remove kids.old.items place)) }
     ensures places { IfOk result (λ heir. AreKept (C.places chunks.new) (kids_places kids.old.items)
         (heir_places heir)) }
@@ -186,7 +186,7 @@ fn remove_inner<C: Chunks>(
     ensures grown { Grows C.contents C.places chunks.old chunks.new }
     ensures node { IfOk result (λ heir. heir ≡ None → IsNode depth keys.new.texts (body.Inner kids.new)) }
     ensures done { IfOk result (λ heir. left_rows (C.contents chunks.new) depth keys.new.texts kids.new.items heir
-        ≡ Some (without key.now (rows_or (shown (C.contents chunks.old)
+        ≡ Some (without_key key.now (rows_or (shown (C.contents chunks.old)
         (body_pieces depth keys.old.texts (body.Inner kids.old)))))) }
     ensures levels { IfOk result (IsRootLeft (C.contents chunks.new) depth
         (body_levels depth keys.old.texts (body.Inner kids.old)) keys.new.texts kids.new.items) }
@@ -218,7 +218,7 @@ fn remove_fated<C: Chunks>(
     ensures grown { Grows C.contents C.places chunks.old chunks.new }
     ensures node { IfOk result (λ heir. heir ≡ None → IsNode depth keys.new.texts (body.Inner kids.new)) }
     ensures done { IfOk result (λ heir. left_rows (C.contents chunks.new) depth keys.new.texts kids.new.items heir
-        ≡ Some (without removal.entry.key.now (rows_or (shown (C.contents chunks.old)
+        ≡ Some (without_key removal.entry.key.now (rows_or (shown (C.contents chunks.old)
         (body_pieces depth keys.old.texts (body.Inner kids.old)))))) }
     ensures levels { IfOk result (IsRootLeft (C.contents chunks.new) depth
         (body_levels depth keys.old.texts (body.Inner kids.old)) keys.new.texts kids.new.items) }
@@ -250,7 +250,7 @@ fn remove_in_root(
     requires pairs { length values.old.items ≡ length keys.old.texts }
     ensures root { IfOk result (λ root. root ≡ None) }
     ensures rows { IfOk result (λ root. (root ≡ None) × (paired keys.new.texts values.new.items
-        ≡ without key.now (paired keys.old.texts values.old.items))) }
+        ≡ without_key key.now (paired keys.old.texts values.old.items))) }
     ensures keys { AreKeys keys.new.texts }
     ensures left { IfOk result (λ root. (root ≡ None) × IsLeafLeft keys.old.texts keys.new.texts) }
     ensures pairs { length values.new.items ≡ length keys.new.texts }
@@ -275,7 +275,7 @@ impl OwnNode {
         requires tree { IsTree (shown (C.contents chunks.old) self.old.pieces) }
         ensures grown { Grows C.contents C.places chunks.old chunks.new }
         ensures done { IfOk result (λ root. root_rows (C.contents chunks.new) self.new root
-            ≡ Some (without key.now (rows_or (shown (C.contents chunks.old) self.old.pieces)))) }
+            ≡ Some (without_key key.now (rows_or (shown (C.contents chunks.old) self.old.pieces)))) }
         ensures places { IfOk result (λ root. AreKept (C.places chunks.new) (places_of self.old.pieces)
             (root_left self.new root)) }
         ensures levels { IfOk result (IsRootRemoved (C.contents chunks.new) self.old.depth (seen_levels self.old)

@@ -23,8 +23,8 @@ ghost use Rattle.map_chunks.specs.Seeking.{chunk_depth};
 ghost use Rattle.map_chunks.specs.Shown.{chunk_rows, rows_or, IsTree};
 ghost use Rattle.map_nodes.specs.Changes.{CanMake, Makes};
 ghost use Rattle.map_nodes.specs.Inside.Halves.{lowered, IsLower};
-ghost use Rattle.map_nodes.specs.Inside.Laying.{IsPutEnd, IsCopiedStep, IsLeafEnd, IsReached, CanStep, IsStepped};
-ghost use Rattle.map_nodes.specs.Trails.{leaf_seen, trail_seen, IsEnd, IsTrail};
+ghost use Rattle.map_nodes.specs.Inside.Laying.{IsPutEnd, IsCopiedStep, IsLeafEnd, IsChunkEnd, CanStep, IsStepped};
+ghost use Rattle.map_nodes.specs.Trails.{leaf_seen, trail_seen, IsTrailEnd, IsTrail};
 ghost use Rattle.map_nodes.specs.declared.nodes.trails.End.{End as Ends};
 
 use super::super::OwnNode;
@@ -33,7 +33,7 @@ use super::super::growing::{Down, grown_over, grown_rows};
 use super::super::homes::boxed;
 use super::super::putting::{Half, value_found};
 use super::{End, Step, Trail};
-use crate::changes::Change;
+use crate::changes::ValueChange;
 use group_history::{Chunk, Inner, Json, Keys, Leaf, Ref, STAMPS, Stop, Text, Update};
 use map_chunks::keys::NodeKeys;
 use map_chunks::search::{place_for, search_for};
@@ -83,7 +83,7 @@ impl End {
 
     // The same leaf as an own chunk.
     fn into_node(self) -> OwnNode
-        requires { IsEnd self }
+        requires { IsTrailEnd self }
         ensures { result ≡ leaf_seen self }
     {
         OwnNode::of_rows(NodeKeys::shared(self.keys), self.values)
@@ -183,7 +183,7 @@ fn change_leaf<F: FnOnce(Option<Json>) -> Result<Update, Stop>>(
     leaf: &Leaf,
     down: &Down<'_>,
     laying: &mut Laying,
-    change: Change<F>,
+    change: ValueChange<F>,
 ) -> Result<Reached, Stop>
     requires callable { CanMake (λ f. F.IsAlwaysCallable f) change }
     ensures reached { IfOk result (λ r. (u : Updates) × Makes (λ f x r. F.post f x r) change (finite.find
@@ -294,7 +294,7 @@ pub(crate) fn change_at<C: Chunks, F: FnOnce(Option<Json>) -> Result<Update, Sto
     at: Ref,
     down: &Down<'_>,
     laying: &mut Laying,
-    change: Change<F>,
+    change: ValueChange<F>,
 ) -> Result<Reached, Stop>
     requires known { IsTree (chunk_rows (C.contents chunks.old) (stamp_of at)) }
     requires place { C.places chunks.old at }
@@ -304,7 +304,7 @@ pub(crate) fn change_at<C: Chunks, F: FnOnce(Option<Json>) -> Result<Update, Sto
     ensures grown { Grows C.contents C.places chunks.old chunks.new }
     ensures reached { IfOk result (λ r. (u : Updates) × Makes (λ f x r. F.post f x r) change (finite.find
         (slice_cmp nat_cmp) down.now.key.now (rows_or (chunk_rows (C.contents chunks.old) (stamp_of at)))) (Ok u)
-        × IsReached (C.contents chunks.new) (C.places chunks.new) down.now.copies down.now.as_trail (stamp_of at)
+        × IsChunkEnd (C.contents chunks.new) (C.places chunks.new) down.now.copies down.now.as_trail (stamp_of at)
         (chunk_depth (C.contents chunks.old) (stamp_of at))
         (rows_or (chunk_rows (C.contents chunks.old) (stamp_of at))) down.now.key.now u r laying.new) }
     ensures stopped { IfErr result (λ e. (e ≡ NoMemory) ⊎ C.stops e ⊎ Makes (λ f x r. F.post f x r) change (finite.find
@@ -327,7 +327,7 @@ fn change_in<C: Chunks, F: FnOnce(Option<Json>) -> Result<Update, Stop>>(
     here: ShownChunk<'_>,
     down: &Down<'_>,
     laying: &mut Laying,
-    change: Change<F>,
+    change: ValueChange<F>,
 ) -> Result<Reached, Stop>
     requires known { IsTree (chunk_rows (C.contents chunks.old) (stamp_of here.at)) }
     requires content { slice_get (C.contents chunks.old) (stamp_of here.at) ≡ Some (chunk_content here.chunk.now) }
@@ -338,7 +338,7 @@ fn change_in<C: Chunks, F: FnOnce(Option<Json>) -> Result<Update, Stop>>(
     ensures grown { Grows C.contents C.places chunks.old chunks.new }
     ensures reached { IfOk result (λ r. (u : Updates) × Makes (λ f x r. F.post f x r) change (finite.find
         (slice_cmp nat_cmp) down.now.key.now (rows_or (chunk_rows (C.contents chunks.old) (stamp_of here.entry.at))))
-        (Ok u) × IsReached (C.contents chunks.new) (C.places chunks.new) down.now.copies down.now.as_trail
+        (Ok u) × IsChunkEnd (C.contents chunks.new) (C.places chunks.new) down.now.copies down.now.as_trail
         (stamp_of here.entry.at)
         (chunk_depth (C.contents chunks.old) (stamp_of here.entry.at))
         (rows_or (chunk_rows (C.contents chunks.old) (stamp_of here.entry.at))) down.now.key.now u r laying.new) }

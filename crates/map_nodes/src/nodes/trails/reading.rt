@@ -7,7 +7,7 @@ ghost use Rattle.group_history.specs.Rows.{Rows};
 ghost use Rattle.group_history.specs.Spelling.{Contents};
 ghost use Rattle.group_history.specs.declared.mutators.Stop.TheVariants.{NoMemory};
 ghost use Rattle.map_chunks.specs.Places.{Grows, AreAll, places_of};
-ghost use Rattle.map_chunks.specs.Seeking.{is_in};
+ghost use Rattle.map_chunks.specs.Seeking.{is_key_in};
 ghost use Rattle.map_chunks.specs.Shown.{fresh, shown, IsTree, rows_or};
 ghost use Rattle.map_nodes.specs.Inside.Spots.{IsSpot};
 ghost use Rattle.map_nodes.specs.Trails.{trail_seen, IsTrail};
@@ -56,7 +56,8 @@ impl Trail {
         requires places { AreAll (C.places chunks.old) (places_of self.now.pieces) }
         requires tree { IsTree (shown (C.contents chunks.old) self.now.pieces) }
         ensures grown { Grows C.contents C.places chunks.old chunks.new }
-        ensures has { IfOk result (λ b. b ≡ is_in (rows_or (shown (C.contents chunks.old) self.now.pieces)) key.now) }
+        ensures has { IfOk result (λ b. b ≡ is_key_in (rows_or (shown
+            (C.contents chunks.old) self.now.pieces)) key.now) }
         ensures stopped { IfErr result C.stops }
     {
         let searched = SearchKey::new(key);

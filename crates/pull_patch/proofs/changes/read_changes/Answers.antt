@@ -4,7 +4,7 @@ use Rattle.std.proofs.lemmas.List.Elements.{All-push}
 use Rattle.serde_json.specs.View.{view, number_view, members_view}
 use Rattle.group_history.specs.declared.responses.Confirmed.{Confirmed}
 use Rattle.pull_patch.specs.Fields.{each, members_list}
-use Rattle.pull_patch.specs.Changes.{entry, entry_of, change_of}
+use Rattle.pull_patch.specs.Changes.{entry, entry_of, confirmed_said}
 use Rattle.pull_patch.proofs.Eaches.{Gave, Gave-next, Gave-none, Gave-all, Gathered-next, Gathered-missing}
 use Rattle.pull_patch.proofs.Lists.{entry_of-some, entry_of-none, changes_part-none, changes_part-ok}
 use Rattle.pull_patch.proofs.changes.read_changes.Goals as goal
@@ -26,14 +26,14 @@ loop-name-preserved-in-Continue-branch-3 c =
     let e = entry (string_bytes c.in-Some.name.now) (number_view c.in-Some-id_of.number.now) in
     let gave = subst (λ es. Gave entry_of (members_list (members_view c.into_iter-name-iterator.result)) l.invariant.0
     (members_list (members_view es))) c.in-Some.ensures.steps l.invariant.1 in
-    let is = ap (λ n. change_of (entry n (number_view c.in-Some-id_of.number.now)))
+    let is = ap (λ n. confirmed_said (entry n (number_view c.in-Some-id_of.number.now)))
     (sym c.as_str.ensures.value) ∙ sym c.in_ok-change.ensures.value ∙ c.in-Some-2.is in (
       l.invariant.0 ++ e ∷ [],
       Gave-next entry_of (members_list (members_view c.into_iter-name-iterator.result))
           (members_list (members_view c.next.new.self)) l.invariant.0 _ e gave
           (entry_of-some _ (view c.in-Some.member.now) _ (sym c.in-Some-id_of.ensures.value)),
       rw c.in_ok-push-in-Some-2.ensures.items
-          (Gathered-next change_of l.invariant.0 e c.in-Some-2.change l.whole l.changes.items l.invariant.2 is),
+          (Gathered-next confirmed_said l.invariant.0 e c.in-Some-2.change l.whole l.changes.items l.invariant.2 is),
       rw c.in_ok-push-in-Some-2.ensures.items
           (All-push (λ (x : Confirmed). x.id ≤ 2 ^ 52) l.changes.items c.in-Some-2.change l.invariant.3
           (subst (λ o. IfSome o (λ (x : Confirmed). x.id ≤ 2 ^ 52)) c.in-Some-2.is c.in_ok-change.ensures.in_range)),
@@ -45,13 +45,13 @@ loop-name-preserved c =
     let e = entry (string_bytes c.in-Some.name.now) (number_view c.in-Some-id_of.number.now) in
     let gave = subst (λ es. Gave entry_of (members_list (members_view c.into_iter-name-iterator.result)) l.invariant.0
     (members_list (members_view es))) c.in-Some.ensures.steps l.invariant.1 in
-    let is = ap (λ n. change_of (entry n (number_view c.in-Some-id_of.number.now)))
+    let is = ap (λ n. confirmed_said (entry n (number_view c.in-Some-id_of.number.now)))
     (sym c.as_str.ensures.value) ∙ sym c.in_ok-change.ensures.value ∙ c.in-None-2.is in (
       l.invariant.0 ++ e ∷ [],
       Gave-next entry_of (members_list (members_view c.into_iter-name-iterator.result))
           (members_list (members_view c.next.new.self)) l.invariant.0 _ e gave
           (entry_of-some _ (view c.in-Some.member.now) _ (sym c.in-Some-id_of.ensures.value)),
-      Gathered-missing change_of l.invariant.0 e l.changes.items is,
+      Gathered-missing confirmed_said l.invariant.0 e l.changes.items is,
       l.invariant.3,
     )
 

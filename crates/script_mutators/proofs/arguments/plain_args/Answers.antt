@@ -3,7 +3,7 @@ use Rattle.std.proofs.lemmas.Int.{to_z-of_z}
 use Rattle.std.proofs.lemmas.Str.{IsCharBoundary-after_ascii}
 use mir.Syntax.{w64}
 use Rattle.serde_json.specs.Data.{string, array, no_items, item}
-use Rattle.script_mutators.specs.Inside.Arguments.{whole}
+use Rattle.script_mutators.specs.Inside.Arguments.{integer}
 use Rattle.script_mutators.proofs.Cuts.{cut_key}
 use Rattle.script_mutators.proofs.PlainTexts.{value_of-alone, value_of-both, written-whole, written-text}
 use Rattle.script_mutators.proofs.arguments.plain_args.Goals as goal
@@ -37,8 +37,8 @@ returns-in-Some-clause-value c =
     let z = c.in-Some.number in
     let number = c.in-Some.ensures in
     let same_number = to_z-of_z w64 z (record { sfits = omega (arith, number.1) }) in
-    value_of-both text key other (whole z) c.utf8.text same is.1 (written-whole other z number.0 number.1)
-    ∙ ap (λ y. Some (array (item (string key) (item (whole y) no_items)))) (sym same_number)
+    value_of-both text key other (integer z) c.utf8.text same is.1 (written-whole other z number.0 number.1)
+    ∙ ap (λ y. Some (array (item (string key) (item (integer y) no_items)))) (sym same_number)
 
 pub returns-clause-value : goal.returns-clause-value
 returns-clause-value c =

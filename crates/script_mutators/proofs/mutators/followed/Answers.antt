@@ -4,5 +4,5 @@ use Rattle.script_mutators.specs.Inside.Mutators as inside
 use Rattle.script_mutators.proofs.mutators.followed.Goals as goal
 
 pub returns-clause-ok : goal.returns-clause-ok
-unfolding followed inside.followed
+unfolding followed inside.put_followed
 returns-clause-ok c = search rules

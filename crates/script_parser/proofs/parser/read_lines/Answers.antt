@@ -9,7 +9,7 @@ use Rattle.script_parser.specs.declared.parser.Parser.{Parser}
 use Rattle.script_parser.specs.Inside.Parsing.{context_of}
 use Rattle.script_parser.specs.Context.{nothing_said}
 use Rattle.script_parser.specs.Faults.{lines_of, said_in, said_with, Checks}
-use Rattle.script_parser.specs.Inside.Faults.{fault_at, Follows}
+use Rattle.script_parser.specs.Inside.Faults.{fault_at, AgreesWith}
 use Rattle.script_parser.proofs.Scripts.{Said, Said-none, Said-turn, Said-fault, Said-all, Checks-fault}
 use Rattle.script_parser.proofs.parser.read_lines.Goals as goal
 
@@ -60,7 +60,7 @@ returns-in-Err-clause-first c =
     ) in
     let lines = map (λ x. x.now) c.loop-line.yielded in
     let first = result_err (said_in 1 nothing_said (lines_of text)) in
-    let follows = subst (λ m. Follows {X = Unit {0}} (said_with (context_of c.loop-line.parser) m c.in-Some.line.now)
+    let follows = subst (λ m. AgreesWith {X = Unit {0}} (said_with (context_of c.loop-line.parser) m c.in-Some.line.now)
     (context_of c.line.new.self) (Err c.in-Err.fault)) number c.in-Err.ensures in
     let told = Checks-fault Parser (Unit {0}) (n + 1) first
     (said_with (context_of c.loop-line.parser) (n + 1) c.in-Some.line.now)

@@ -6,7 +6,7 @@ use Rattle.std.proofs.Common.{rules, ℕ, ◌<◌, subst, length, slice_index_or
 use Rattle.script_runner.specs.contracts.phase.ClientTurn as turn_type
 use Rattle.script_runner.specs.declared.phase.ClientTurn.{ClientTurn}
 use Rattle.script_parser.specs.Scripts.{lines_at}
-use Rattle.script_runner.specs.Inside.Turns.{IsTurn}
+use Rattle.script_runner.specs.Inside.Turns.{IsClientTurn}
 use Rattle.script_runner.proofs.Sending.{turn_send}
 use Rattle.script_runner.proofs.Turns.{lent, phase, still_one}
 use Rattle.script_runner.proofs.phase.run_phase.Goals as goal
@@ -23,12 +23,12 @@ returns g c =
     let old = c.args.turns.now in let new = c.for_each_mut.new.s in let said = c.args.phase.now in
     let sights = c.in_ok-sights.sights.items in
     let turns : (i : ℕ) (d : ClientTurn _) → i < length old
-    → IsTurn means sights (lines_at said.parts.items i) (slice_index_or old i d).client
+    → IsClientTurn means sights (lines_at said.parts.items i) (slice_index_or old i d).client
     (slice_index_or new i d) = λ i d below.
     let w = (c.for_each_mut.ensures i d below).1 in
-    subst (λ x. IsTurn means sights (lines_at said.parts.items i) x.client
+    subst (λ x. IsClientTurn means sights (lines_at said.parts.items i) x.client
     (slice_index_or new i d)) w.argument_is
-    (subst (λ y. IsTurn means sights (lines_at said.parts.items i) w.argument.now.client y) w.left w.call) in
+    (subst (λ y. IsClientTurn means sights (lines_at said.parts.items i) w.argument.now.client y) w.left w.call) in
     record {
       phase = λ printed. phase means sights old new said c.in_ok-sights.ensures.seen c.for_each_mut.auto.s
           c.requires.lines turns printed;

@@ -1,7 +1,7 @@
 use Rattle.std.proofs.Common.{◌∙◌, ap, arith, subst, sym, take}
 use Rattle.std.proofs.lemmas.List.{take_all}
 use Rattle.std.specs.List.{All}
-use Rattle.script_runner.specs.Inside.Records.{Covers, IsSitting}
+use Rattle.script_runner.specs.Inside.Records.{HasSeen, IsSitting}
 use Rattle.script_runner.proofs.Gathering.{heard, still_covers, unlearnt}
 use Rattle.script_runner.proofs.Turns.{all-more}
 use Rattle.script_runner.proofs.record.hear_all.Goals as goal
@@ -20,7 +20,7 @@ loop-other-preserved g c =
     let h = heard c.args.turn.now l.turn c.hear.new.turn c.other-item.result l.invariant.learnt sits c.hear.ensures in
     record {
       learnt = h.0;
-      seen = all-more (Covers c.hear.new.turn) c.args.others.now l.other-index c.other-item.result
+      seen = all-more (HasSeen c.hear.new.turn) c.args.others.now l.other-index c.other-item.result
           c.loop-other-test.true
           c.other-item.is (still_covers l.turn c.hear.new.turn (take l.other-index c.args.others.now) h.1
           l.invariant.seen)
@@ -36,5 +36,5 @@ hear-requires g c = (
 
 pub returns-clause-seen : goal.returns-clause-seen
 returns-clause-seen g c =
-    subst (λ ts. All (Covers c.loop-other.turn) ts)
+    subst (λ ts. All (HasSeen c.loop-other.turn) ts)
     (take_all c.loop-other.other-index c.args.others.now c.loop-other-test.false) c.loop-other.invariant.seen

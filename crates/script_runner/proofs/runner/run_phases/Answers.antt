@@ -6,7 +6,7 @@ use Rattle.script_runner.specs.Phases.{AreWritten}
 use Rattle.script_runner.specs.Runs.{IsRunWant}
 use Rattle.script_parser.specs.Scripts.{phase_said}
 use Rattle.script_runner.specs.Inside.Players.{players_of}
-use Rattle.script_runner.specs.Inside.Turns.{texts_of}
+use Rattle.script_runner.specs.Inside.Turns.{turn_texts}
 use Rattle.script_runner.proofs.Turns.{appends-kept, appends-twice, phase-more}
 use Rattle.script_runner.proofs.runner.run_phases.Goals as goal
 
@@ -15,13 +15,13 @@ loop-phase-preserved g c =
     let l = c.loop-phase in let so_far = l.invariant.written in let new = c.write_phase.new.turns in
     record {
       written = (
-        so_far.0 ++ concat (texts_of new),
+        so_far.0 ++ concat (turn_texts new),
         phase-more g.M.Means.means (players_of c.args.turns.now) (players_of l.turns) (players_of new)
-            c.args.phases.now l.phase-index so_far.0 c.phase-item.result (texts_of new) c.loop-phase-test.true
+            c.args.phases.now l.phase-index so_far.0 c.phase-item.result (turn_texts new) c.loop-phase-test.true
             c.phase-item.is so_far.1 c.in_ok-write_phase.ensures.phase,
         appends-twice (g.W.Write.contents c.args.out.now) (g.W.Write.contents l.out)
             (g.W.Write.contents c.write_phase.new.out) so_far.0
-            (concat (texts_of new)) so_far.2 c.in_ok-write_phase.ensures.text,
+            (concat (turn_texts new)) so_far.2 c.in_ok-write_phase.ensures.text,
       );
       len = c.write_phase.ensures.count ∙ l.invariant.len;
       one = λ b all. c.write_phase.ensures.group b (l.invariant.one b all);

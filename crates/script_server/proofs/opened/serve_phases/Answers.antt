@@ -1,5 +1,5 @@
 use Rattle.std.proofs.lemmas.Result.{on_err_weaker, on_ok_weaker}
-use Rattle.script_server.specs.Inside.Stages.{heads_stand, opened_stand, place_of}
+use Rattle.script_server.specs.Inside.Stages.{heads_stand, opened_stand, served_at}
 use Rattle.script_server.proofs.Opening.{ended_unbegun}
 use Rattle.script_server.proofs.Served.{on_err}
 use Rattle.script_server.proofs.Settled.{steady_opened}
@@ -13,7 +13,7 @@ settle-requires-clause-steady g c b m =
 
 pub returns-in_err-opened-clause-ended : goal.returns-in_err-opened-clause-ended
 returns-in_err-opened-clause-ended g c old begun =
-    on_err c.from_residual.result (ended_unbegun old (place_of (heads_stand c.args.heads) c.args.number
+    on_err c.from_residual.result (ended_unbegun old (served_at (heads_stand c.args.heads) c.args.number
     (g.I.Read.remaining c.args.input.now) (g.W.Write.contents c.args.out.now)) begun)
 
 pub returns-clause-served : goal.returns-clause-served

@@ -9,7 +9,6 @@ use Rattle.group_history.specs.Refs.{stamp_of}
 use Rattle.group_history.specs.Rows.{paired, keys_of, values_of}
 use Rattle.group_history.proofs.Lists.{prefix_trans}
 use Rattle.group_history.proofs.Pairs.{paired-parts}
-use Rattle.map_chunks.specs.Inside.Scanning.{CanTake}
 use Rattle.map_chunks.specs.Places.{AreAll}
 use Rattle.map_chunks.specs.Scanning.{Took, is_over, taken}
 use Rattle.map_chunks.specs.Search.{IsPlace}
@@ -22,7 +21,8 @@ use Rattle.map_chunks.proofs.ScanLemmas.{chunk_rows-kept, got_any, pairs_all, pa
 use Rattle.map_chunks.proofs.ScanLemmas.{ref_rows, ref_turn, refs_known}
 use Rattle.map_chunks.proofs.SearchLemmas.{length-keys_of, length-values_of}
 use Rattle.map_chunks.proofs.WayLemmas.{leaf_is, rows_later}
-use Rattle.transactions.specs.Rescans.{Found, HasFound}
+use Rattle.transactions.specs.Rescans.{SoFar, HasFound}
+use Rattle.transactions.specs.Spans.{Tells}
 use Rattle.transactions.proofs.SpanLemmas.{kept_more, leaf_more, shown_more}
 use Rattle.transactions.proofs.again.+again.Goals as goal
 
@@ -32,19 +32,19 @@ take_child-returns-in-Some-clause-more g t c before all pre up spans tree =
     let k = stamp_of c.args.at in let n = known (chunk_rows before k) tree in
     let new = c.keep.new.self in let same = c.find.ensures.same in
     let stamp = c.in-Some.ensures.span.1 ∙ ap (λ (w : ℕ). Some w) c.stamp.ensures.stamp in
-    let fits = subst (λ (f : Found). CanTake f.room kept.span.count) (sym same) c.in-Some.ensures.room in
+    let tells = subst (λ (f : SoFar). Tells kept.span f.room) (sym same) c.in-Some.ensures.tells in
     subst (λ w. Took (HasFound scan all) c.args.again.now new c.args.again.now.room new.room
     (taken scan c.args.again.now.room (rows_or w))) (sym n.is)
-    (subst (λ (f : Found). Took (HasFound scan all) f new f.room new.room (taken scan f.room n.rows)) same
+    (subst (λ (f : SoFar). Took (HasFound scan all) f new f.room new.room (taken scan f.room n.rows)) same
     (kept_more scan all told c.args.asked.known.now kept.all.now kept.span k n.rows c.find.new.self new spans
-    c.in-Some.ensures.span.0 stamp c.in-Some.ensures.all (chunk_rows-kept before all k n.rows up n.is) fits
+    c.in-Some.ensures.span.0 stamp c.in-Some.ensures.all (chunk_rows-kept before all k n.rows up n.is) tells
     c.in_ok-keep.ensures.rows c.in_ok-keep.ensures.room c.in_ok-keep.ensures.spans))
 
 pub take_child-returns-clause-more : goal.take_child-returns-clause-more
 take_child-returns-clause-more g t c = on_ok c.take_shown.result c.take_shown.ensures.more
     (λ more before all pre up spans tree.
     let new = c.take_shown.new.again in
-    subst (λ (f : Found). Took (HasFound c.args.asked.scan.now all) f new f.room new.room
+    subst (λ (f : SoFar). Took (HasFound c.args.asked.scan.now all) f new f.room new.room
     (taken c.args.asked.scan.now f.room (rows_or (chunk_rows before (stamp_of c.args.at))))) c.find.ensures.same
     (more before all pre up spans tree))
 

@@ -4,7 +4,7 @@ use Rattle.group_history.specs.Rows.{Rows}
 use Rattle.group_history.proofs.Lists.{prefix_self}
 use Rattle.map_chunks.specs.Scanning.{taken}
 use Rattle.map_chunks.specs.Shown.{chunk_rows, rows_or}
-use Rattle.transactions.specs.Rescans.{Found, HasFound, IsRescanned}
+use Rattle.transactions.specs.Rescans.{SoFar, HasFound, IsRescanned}
 use Rattle.transactions.specs.Spans.{AreSpans}
 use Rattle.transactions.proofs.SpanLemmas.{found_none, rescanned_is}
 use Rattle.transactions.proofs.again.scan_beside.Goals as goal
@@ -21,7 +21,7 @@ returns-clause-found g c all up spans =
     let none = found_none scan all scan.limit c.new-again.result c.new-again.ensures in
     let took = (c.in_ok-take_child.ensures.more now all (prefix_self now) up known c.requires.tree).rows [] none in
     let end = subst (λ (room : Option ℕ). HasFound scan all c.take_child.new.again (taken scan room rows))
-    (ap (λ (f : Found). f.room) c.new-again.ensures) took in
+    (ap (λ (f : SoFar). f.room) c.new-again.ensures) took in
     let found = rescanned_is scan all told (taken scan scan.limit rows) c.take_child.new.again
     c.in_ok-into_rescanned.field-0 c.in_ok-into_rescanned.ensures.some c.in_ok-into_rescanned.ensures.same
     c.in_ok-into_rescanned.ensures.spans end in

@@ -1,6 +1,6 @@
 use Rattle.std.proofs.Common.{ap, sym, subst, ◌∙◌}
 use Rattle.rebase.specs.Watching.{Watched}
-use Rattle.client_desk.specs.Inside.Keeping.{AreOf}
+use Rattle.client_desk.specs.Inside.Keeping.{AreFor}
 use Rattle.client_desk.specs.Sitting.{client_of}
 use Rattle.client_desk.specs.Told.{told_alone}
 use Rattle.client_desk.proofs.Numbers.{room_of}
@@ -16,7 +16,7 @@ invariant_of-self g c =
       was.3,
       kept_watch _ _ c.in-Client.client c.args.keep _ _ _ _ (ap (λ sits. client_of sits) c.in-Client.is) was.1
           (ap (λ (w : Watched). w.book) c.watch-watch.ensures)
-          (subst (AreOf _) (sym c.make_room.ensures) (room_of _ c.args.keep _ was.4)) c.keep_watch.ensures,
+          (subst (AreFor _) (sym c.make_room.ensures) (room_of _ c.args.keep _ was.4)) c.keep_watch.ensures,
     )
 
 pub returns-in-Ok : goal.returns-in-Ok

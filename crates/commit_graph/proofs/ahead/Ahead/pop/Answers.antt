@@ -17,14 +17,16 @@ invariant_of-self-2 c =
     let es = c.pop_last.new.self.entries in let e : ℕ × NamedNode = (c.in_ok-found.field-0-0, c.in_ok-found.found) in (
       (keyed_last es e (subst AreKeyed c.in_ok-found.ensures.removal c.self.invariant.0)).0,
       λ f h. subst (λ (n : ℕ). stamp_in f < n) (sym c.pop.ensures.low)
-          (keeps_under c.self.inside.tree.entries es e c.self.inside.near.low c.in_ok-found.ensures.removal c.self.invariant.1
+          (keeps_under c.self.inside.tree.entries es e c.self.inside.near.low c.in_ok-found.ensures.removal
+          c.self.invariant.1
           f h),
     )
 
 pub returns-clause-some : goal.returns-clause-some
 returns-clause-some c =
     let es = c.pop_last.new.self.entries in let e : ℕ × NamedNode = (c.in_ok-found.field-0-0, c.in_ok-found.found) in
-    sym c.self.view_is ∙ (ap (λ (w : List NamedNode). nodes_in c.self.inside.tree.entries ++ w) c.in_default.ensures.none
+    sym c.self.view_is
+    ∙ (ap (λ (w : List NamedNode). nodes_in c.self.inside.tree.entries ++ w) c.in_default.ensures.none
     ∙ (append-nil (nodes_in c.self.inside.tree.entries) ∙ (ap nodes_in c.in_ok-found.ensures.removal
     ∙ (nodes_with es (e ∷ []) ∙ ap (λ (w : List NamedNode). w ++ c.in_ok-found.found ∷ [])
     (sym (ap (λ (w : List NamedNode). nodes_in es ++ w) c.in_default.ensures.left ∙ append-nil (nodes_in es)))))))

@@ -7,8 +7,8 @@ use Rattle.head_word.specs.Books.{next_stamp, drafted, AreAfter}
 use Rattle.head_word.specs.Tallies.{key_of, mine}
 use Rattle.head_word.specs.Marks.{Known, own, own_of}
 use Rattle.head_word.specs.Rules.{drafts_say}
-use Rattle.head_word.specs.Inside.Seats.{Sits, number_of}
-use Rattle.head_word.specs.Inside.Steps.{Taken, Adds, Misses}
+use Rattle.head_word.specs.Inside.Seats.{IfHasTally, number_of_seat}
+use Rattle.head_word.specs.Inside.Steps.{Taken, AddsEntry, Misses}
 use Rattle.head_word.proofs.Stepping.{draft_moves}
 use Rattle.head_word.proofs.Owning.{count_told, own_added}
 use Rattle.head_word.proofs.head.Head.add_draft.Goals as goal
@@ -22,11 +22,11 @@ compare_exchange-found-requires g c =
     let book = ap (λ (m : Known). m.book) c.mark.view_is ∙
     (c.requires.book ∙ (sym c.self.view_is ∙ sym (ap (λ w. w.book) words))) in
     let seat_is : c.mark.inside.seat ≡ Some c.in-Some.seat = sym c.take.ensures.value ∙ c.in-Some.is in
-    let seated = sym (ap (λ (m : Known). m.seat) c.mark.view_is) ∙ ap number_of seat_is in
+    let seated = sym (ap (λ (m : Known). m.seat) c.mark.view_is) ∙ ap number_of_seat seat_is in
     let ask_is = offer.1 ∙ (asked.1 ∙ ap (λ (s : Option ℕ). drafted s c.args.first asked.0) seated) in
     let after = subst (λ (m : Known). AreAfter (next_stamp m.log) 0 asked.0) (sym c.mark.view_is) asked.3 in
     let room = subst (λ (n : ℕ). c.args.first + n ≤ stamps) (sym asked.2) c.requires.room in
-    let sits = subst (Sits c.mark.inside.seen.names c.mark.inside.seen.log) seat_is c.mark.invariant.1 in (
+    let sits = subst (IfHasTally c.mark.inside.seen.names c.mark.inside.seen.log) seat_is c.mark.invariant.1 in (
       ap (λ w. w.tracked) words,
       book,
       pen.0 ∙ book,
@@ -46,10 +46,10 @@ returns-clause-own g c =
     let ask : Entry = g.P.Plain.ask c.args.about.now in
     let won : Bool = nat_eq c.compare_exchange-found.result c.args.first in
     let seat_is : c.mark.inside.seat ≡ Some c.in-Some.seat = sym c.take.ensures.value ∙ c.in-Some.is in
-    let seated = sym (ap (λ (m : Known). m.seat) c.mark.view_is) ∙ ap number_of seat_is in
+    let seated = sym (ap (λ (m : Known). m.seat) c.mark.view_is) ∙ ap number_of_seat seat_is in
     let key : key_of ask ≡ suc number = ap key_of
     (asked.1 ∙ ap (λ (s : Option ℕ). drafted s c.args.first asked.0) seated) in
-    let sits = subst (Sits c.mark.inside.seen.names log) seat_is c.mark.invariant.1 in
+    let sits = subst (IfHasTally c.mark.inside.seen.names log) seat_is c.mark.invariant.1 in
     let offer = c.offered-offer.ensures in
     let step = c.compare_exchange-found.ensures in
     let gain = c.into_gain.ensures in
@@ -68,8 +68,8 @@ returns-clause-own g c =
     let own' : mine (suc number) log' ≡ mine (suc number) log ++ (if won then ask ∷ [] else []) =
     own_added drafts_say g.M.Means.means (suc number) c.in-Some.seat.tally.count t a won key sits.count_is
     told gain.2 step.6
-    (subst (λ (e : Entry). MatchBool won (Adds drafts_say g.M.Means.means (record t { ask = e }))
+    (subst (λ (e : Entry). MatchBool won (AddsEntry drafts_say g.M.Means.means (record t { ask = e }))
     (Misses drafts_say (record t { ask = e }))) offer.1 step.7.outcome) in
     let placed = subst (λ (s : Option MarkSeat). mine (suc number) log'
-    ≡ own_of (number_of s) log ++ (if won then ask ∷ [] else [])) (sym seat_is) own' in
+    ≡ own_of (number_of_seat s) log ++ (if won then ask ∷ [] else [])) (sym seat_is) own' in
     subst (λ (m : Known). mine (suc number) log' ≡ own m ++ (if won then ask ∷ [] else [])) c.mark.view_is placed

@@ -7,8 +7,8 @@ use Rattle.head_word.specs.Books.{drawn, last_move, moved, IsChangeFrom, IsOpene
 use Rattle.head_word.specs.Tallies.{mine}
 use Rattle.head_word.specs.Marks.{Known, own, own_of}
 use Rattle.head_word.specs.Rules.{head_says}
-use Rattle.head_word.specs.Inside.Seats.{Sits, number_of}
-use Rattle.head_word.specs.Inside.Steps.{Taken, Adds, Misses}
+use Rattle.head_word.specs.Inside.Seats.{IfHasTally, number_of_seat}
+use Rattle.head_word.specs.Inside.Steps.{Taken, AddsEntry, Misses}
 use Rattle.head_word.proofs.Stepping.{move_moves}
 use Rattle.head_word.proofs.Owning.{count_told, own_added, move_told}
 use Rattle.head_word.proofs.head.Head.add_move.Goals as goal
@@ -23,7 +23,7 @@ compare_exchange-found-requires g c =
     let follows : IsChangeFrom means (drawn c.mark.inside.seen.log) c.args.base c.args.new c.args.change.now = subst
     (λ (m : Known). IsChangeFrom means (drawn m.log) c.args.base c.args.new c.args.change.now)
     (sym c.mark.view_is) c.requires.follows in
-    let sits = subst (Sits c.mark.inside.seen.names c.mark.inside.seen.log)
+    let sits = subst (IfHasTally c.mark.inside.seen.names c.mark.inside.seen.log)
     (sym c.take.ensures.value ∙ c.in-Some.is) c.mark.invariant.1 in (
       ap (λ w. w.tracked) words,
       book,
@@ -43,7 +43,7 @@ returns-clause-own g c =
     let ask = moved (Some number) c.args.new c.args.change.now in
     let won : Bool = nat_eq c.compare_exchange-found.result c.bits-from.result in
     let seat_is : c.mark.inside.seat ≡ Some c.in-Some.seat = sym c.take.ensures.value ∙ c.in-Some.is in
-    let sits = subst (Sits c.mark.inside.seen.names log) seat_is c.mark.invariant.1 in
+    let sits = subst (IfHasTally c.mark.inside.seen.names log) seat_is c.mark.invariant.1 in
     let offer = c.offered-offer.ensures in
     let step = c.compare_exchange-found.ensures in
     let gain = c.into_gain.ensures in
@@ -62,10 +62,10 @@ returns-clause-own g c =
     let own' : mine (suc number) log' ≡ mine (suc number) log ++ (if won then ask ∷ [] else []) =
     own_added head_says g.M.Means.means (suc number) c.in-Some.seat.tally.count t a won refl sits.count_is
     told gain.2 step.6
-    (subst (λ (e : Entry). MatchBool won (Adds head_says g.M.Means.means (record t { ask = e }))
+    (subst (λ (e : Entry). MatchBool won (AddsEntry head_says g.M.Means.means (record t { ask = e }))
     (Misses head_says (record t { ask = e }))) offer.1 step.7.outcome) in
     let placed = subst (λ (s : Option MarkSeat). mine (suc number) log'
-    ≡ own_of (number_of s) log ++ (if won then moved (number_of s) c.args.new c.args.change.now
+    ≡ own_of (number_of_seat s) log ++ (if won then moved (number_of_seat s) c.args.new c.args.change.now
     ∷ [] else [])) (sym seat_is) own' in
     subst (λ (m : Known). mine (suc number) log'
     ≡ own m ++ (if won then moved m.seat c.args.new c.args.change.now ∷ [] else [])) c.mark.view_is placed
@@ -78,7 +78,7 @@ returns-clause-added g c =
     let won : Bool = nat_eq c.compare_exchange-found.result c.bits-from.result in
     let seat_is : c.mark.inside.seat ≡ Some c.in-Some.seat = sym c.take.ensures.value ∙ c.in-Some.is in
     let seated : Some c.in-Some.seat.number
-    ≡ c.args.mark.now.seat = sym (ap number_of seat_is) ∙ ap (λ (m : Known). m.seat) c.mark.view_is in
+    ≡ c.args.mark.now.seat = sym (ap number_of_seat seat_is) ∙ ap (λ (m : Known). m.seat) c.mark.view_is in
     let t : Taken = record {
       ask = ask;
       expected = c.bits-from.result;
@@ -89,7 +89,7 @@ returns-clause-added g c =
       answer = c.compare_exchange-found.new.offer.state;
     } in
     let told = move_told means t c.args.base won c.bits-from.ensures refl
-    (subst (λ (e : Entry). MatchBool won (Adds head_says means (record t { ask = e }))
+    (subst (λ (e : Entry). MatchBool won (AddsEntry head_says means (record t { ask = e }))
     (Misses head_says (record t { ask = e }))) c.offered-offer.ensures.1
     c.compare_exchange-found.ensures.7.outcome) in
     let here = subst (λ (m : Known). MatchBool won

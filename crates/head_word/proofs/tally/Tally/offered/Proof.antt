@@ -29,7 +29,7 @@ use Rattle.head_word.specs.contracts.law.Law as Law
 use Rattle.head_word.specs.contracts.law.Traded as Traded
 use Rattle.head_word.specs.contracts.tally.Tally as Tally
 use Rattle.head_word.specs.Tallies.{key_of}
-use Rattle.head_word.specs.Inside.Parts.{keys_of, kept_tallies, tally_owns, Trades, traded}
+use Rattle.head_word.specs.Inside.Parts.{key_end, kept_tallies, tally_owns, Trades, traded}
 use Rattle.head_word.proofs.Trading as trading
 use Rattle.head_word.specs.contracts.tally.Tally.offered.{ended, clauses}
 use Rattle.head_word.specs.contracts.tally.Tally.offered.Key.{name as #self}
@@ -63,7 +63,7 @@ offered_spec 𝓤 𝓛 𝓜 𝓡 wired S X N _ _ _ g d gn dn _ _ =
     move ! (1 ∷ []) $ fsplit ! $ fsplit ! $ keep ! (1 ∷ 3 ∷ []) $
     enter ! 𝓣.C 𝓣.Λ fn (token ∷ at ∷ []) Post $ alloc_all ! (λ l. pass_all ! refl ((tt, (tt, tt)), ((tt, tt), tt)) $
     let about = ask ∷ replicate me.count ask in
-    let less : key_of ask < keys_of me.names = subst (λ (k : ℕ). k < keys_of me.names) (sym asked.0) asked.1 in
+    let less : key_of ask < key_end me.names = subst (λ (k : ℕ). k < key_end me.names) (sym asked.0) asked.1 in
     let trade : Fml = offer_owns (kept_tallies me.names) (Trades ask) (traded me.names about) None in
     use1 𝓛 (‵ trade) (subst (λ (k : ℕ). base.Logic.ent 𝓤 (sem 𝓛 (tally_owns me.names k me.count)) (sem 𝓛 trade)) asked.0
     (trading.offers 𝓛 me.names ask me.count less)) $

@@ -3,7 +3,7 @@ use Rattle.group_history.specs.Refs.{stamp_of}
 use Rattle.group_history.specs.Rows.{paired}
 use Rattle.map_nodes.specs.declared.nodes.Body.TheVariants.{Leaf}
 use Rattle.map_nodes.specs.Nodes.{body_pieces, IsNode}
-use Rattle.map_chunks.specs.Seeking.{is_in}
+use Rattle.map_chunks.specs.Seeking.{is_key_in}
 use Rattle.map_chunks.specs.Places.{AreAll, places_of}
 use Rattle.map_chunks.specs.Shown.{Seen, rows_or, shown, chunk_rows, IsTree}
 use Rattle.map_chunks.proofs.OpenLemmas.{tree_of}
@@ -75,9 +75,9 @@ returns-in-Leaf-clause-has g t c =
     let pieces = ap (body_pieces c.self.inside.depth texts) (sym c.in-Leaf.is) ∙ ap
     (λ (s : Seen). s.pieces) c.self.view_is in
     c.has_key.ensures values.items (inv.1.1 ∙ ap length (sym c.as_slice.ensures))
-    ∙ ap (λ w. is_in (paired w values.items) c.new.result) c.as_slice.ensures
-    ∙ ap (is_in (paired texts values.items)) c.new.ensures
-    ∙ ap (λ w. is_in (rows_or w) c.args.key.now)
+    ∙ ap (λ w. is_key_in (paired w values.items) c.new.result) c.as_slice.ensures
+    ∙ ap (is_key_in (paired texts values.items)) c.new.ensures
+    ∙ ap (λ w. is_key_in (rows_or w) c.args.key.now)
     (sym (ap (shown p) (sym pieces) ∙ shown-rows p (paired texts values.items)))
 
 pub returns-in_ok-sought-in-Placed-clause-has : goal.returns-in_ok-sought-in-Placed-clause-has

@@ -7,7 +7,7 @@ use Rattle.map_nodes.proofs.LeafLemmas.{put-strict}
 use Rattle.map_nodes.proofs.RenewLemmas.{put_topped}
 use Rattle.map_nodes.proofs.RootLemmas.{begins_least, can_rise}
 use Rattle.map_nodes.specs.Inside.Halves.{least, IsHalf}
-use Rattle.map_nodes.specs.Inside.Rising.{IsTaken}
+use Rattle.map_nodes.specs.Inside.Rising.{IsAboveTaken}
 use Rattle.map_nodes.proofs.nodes.OwnNode.put_full.Goals as goal
 
 pub risen-requires : goal.risen-requires
@@ -29,8 +29,8 @@ risen-requires g c =
     (subst (λ w. IsHalf w old.depth c.in_ok-half.half) c.requires.copies made.half)
     (made.put.2.shown_is ∙ ap (λ z. Some (finite.put (slice_cmp nat_cmp) key v (rows_or z))) n.is)
     (put-strict key v n.rows n.order) b made.filled made.entries
-    (subst (λ w. IsTaken w (least key keys) c.in_ok-above.above) long
-    (subst (λ w. IsTaken (length c.as_slice.result.now) w c.in_ok-above.above) texts c.in_ok-above.ensures))
+    (subst (λ w. IsAboveTaken w (least key keys) c.in_ok-above.above) long
+    (subst (λ w. IsAboveTaken (length c.as_slice.result.now) w c.in_ok-above.above) texts c.in_ok-above.ensures))
 
 pub returns-clause-put : goal.returns-clause-put
 returns-clause-put g c =

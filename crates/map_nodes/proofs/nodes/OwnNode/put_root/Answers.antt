@@ -13,7 +13,7 @@ use Rattle.map_chunks.specs.Shown.{Seen, shown, IsTree}
 use Rattle.map_nodes.proofs.RenewLemmas.{put_unchanged, put_whole}
 use Rattle.map_nodes.specs.Changes.{Makes}
 use Rattle.map_nodes.specs.Inside.Counts.{HasKept}
-use Rattle.map_nodes.specs.Inside.Puts.{value_in}
+use Rattle.map_nodes.specs.Inside.Puts.{shown_at}
 use Rattle.map_nodes.specs.Inside.Unput.{IsAnswer, IsUnput}
 use Rattle.map_nodes.specs.Updating.{IsPutOr}
 use Rattle.map_nodes.specs.declared.nodes.putting.Half.{Half}
@@ -25,7 +25,7 @@ use Rattle.map_nodes.proofs.nodes.OwnNode.put_root.Goals as goal
 not_put : (p q : Contents) (may : Ref → Type 0) (makes : Result Update Stop → Type 0) (stops : Stop → Type 0)
     (key : Bytes) (n o : Seen) (why : PutRefused) (r : Result Ran Stop) → IsPrefix p q
     → IsTree (shown p n.pieces) → o ≡ n
-    → IsUnput makes stops (value_in (shown p n.pieces) key) why → IsAnswer why r
+    → IsUnput makes stops (shown_at (shown p n.pieces) key) why → IsAnswer why r
     → IfOk r (λ ran. (u : Update) × makes (Ok u) × IsPutOr p q may key n o u ran)
 not_put p q may makes stops key n o (Stopped s) r pre tree e h is = subst (λ w. IfOk w (λ ran. (u : Update)
     × makes (Ok u) × IsPutOr p q may key n o u ran)) (sym is) tt
@@ -78,7 +78,7 @@ pub returns-in-Err-clause-put : goal.returns-in-Err-clause-put
 returns-in-Err-clause-put g c =
     let p = g.C.Chunks.contents c.args.chunks.now in
     let q = g.C.Chunks.contents c.put.new.chunks in
-    let found = value_in (shown p c.args.self.now.pieces) c.args.key.now in
+    let found = shown_at (shown p c.args.self.now.pieces) c.args.key.now in
     let makes : Result Update Stop → Type 0 =
     λ r. Makes (λ f x y. g.F.FnOnce.post f (x, tt) y) c.args.change found r in
     not_put p q (g.C.Chunks.places c.put.new.chunks) makes g.C.Chunks.stops c.args.key.now
@@ -90,7 +90,7 @@ pub returns-in-Err-put_full-clause-put : goal.returns-in-Err-put_full-clause-put
 returns-in-Err-put_full-clause-put g c =
     let p = g.C.Chunks.contents c.args.chunks.now in
     let q = g.C.Chunks.contents c.put_full.new.chunks in
-    let found = value_in (shown p c.args.self.now.pieces) c.args.key.now in
+    let found = shown_at (shown p c.args.self.now.pieces) c.args.key.now in
     let makes : Result Update Stop → Type 0 =
     λ r. Makes (λ f x y. g.F.FnOnce.post f (x, tt) y) c.args.change found r in
     not_put p q (g.C.Chunks.places c.put_full.new.chunks) makes g.C.Chunks.stops c.args.key.now c.args.self.now
@@ -102,7 +102,7 @@ returns-in-Err-put_full-clause-put g c =
 pub returns-in-Err-clause-stopped : goal.returns-in-Err-clause-stopped
 returns-in-Err-clause-stopped g c =
     let p = g.C.Chunks.contents c.args.chunks.now in
-    let found = value_in (shown p c.args.self.now.pieces) c.args.key.now in
+    let found = shown_at (shown p c.args.self.now.pieces) c.args.key.now in
     let makes : Result Update Stop → Type 0 =
     λ r. Makes (λ f x y. g.F.FnOnce.post f (x, tt) y) c.args.change found r in
     not_done makes g.C.Chunks.stops found c.in-Err.refused c.answered.result c.in-Err.ensures.unput c.answered.ensures
@@ -110,7 +110,7 @@ returns-in-Err-clause-stopped g c =
 pub returns-in-Err-put_full-clause-stopped : goal.returns-in-Err-put_full-clause-stopped
 returns-in-Err-put_full-clause-stopped g c =
     let p = g.C.Chunks.contents c.args.chunks.now in
-    let found = value_in (shown p c.args.self.now.pieces) c.args.key.now in
+    let found = shown_at (shown p c.args.self.now.pieces) c.args.key.now in
     let makes : Result Update Stop → Type 0 =
     λ r. Makes (λ f x y. g.F.FnOnce.post f (x, tt) y) c.args.change found r in
     not_done makes g.C.Chunks.stops found c.in-Err-put_full.refused c.answered-in-Err-put_full.result

@@ -5,7 +5,7 @@ use Rattle.map_nodes.specs.Inside.Freezing.{kids_places}
 use Rattle.group_history.specs.Refs.{stamp_of}
 use Rattle.map_nodes.specs.Levels.{levels_of, parting, placed_levels, seen_levels, AreShrunk, RemovedLater}
 use Rattle.map_nodes.specs.Nodes.{body_levels, body_marks, body_pieces, kids_marks, row_pieces, sunk, IsNode}
-use Rattle.map_nodes.specs.Removing.{root_left, root_rows, without, IsRootRemoved}
+use Rattle.map_nodes.specs.Removing.{root_left, root_rows, without_key, IsRootRemoved}
 use Rattle.map_nodes.specs.Inside.Removing.{left_places, IsRootLeft}
 use Rattle.map_nodes.proofs.CountLemmas.{leaf_counts}
 use Rattle.map_nodes.proofs.LevelLemmas.{inner-levels}
@@ -33,8 +33,8 @@ returns-in-Leaf-clause-done g c =
     } in
     if_ok_so c.remove_in_root.result c.remove_in_root.ensures.rows (λ root left.
     ap (root_rows p seen) left.0 ∙ ap (λ w. shown p (row_pieces w)) left.1 ∙ shown-rows p
-    (without c.args.key.now (paired c.self.inside.keys.texts c.in-Leaf.values.items))
-    ∙ ap (λ z. Some (without c.args.key.now (rows_or z)))
+    (without_key c.args.key.now (paired c.self.inside.keys.texts c.in-Leaf.values.items))
+    ∙ ap (λ z. Some (without_key c.args.key.now (rows_or z)))
     (sym (leaf_rows p c.self.inside.depth c.self.inside.keys.texts c.self.inside.body c.in-Leaf.values
     c.args.self.now.pieces (ap (λ (s : Seen). s.pieces) c.self.view_is) c.in-Leaf.is)))
 

@@ -8,7 +8,7 @@ use Rattle.map_nodes.specs.Inside.Counts.{HasKept}
 use Rattle.map_nodes.specs.Inside.Halves.{lowered, with_half, Finished, IsHalf, IsLower}
 use Rattle.map_nodes.specs.Inside.Laying.{entries_over, inner_seen, kids_over}
 use Rattle.map_nodes.specs.Inside.Puts.{IsHalved}
-use Rattle.map_nodes.specs.Inside.Ready.{AreNinthIn, Fits}
+use Rattle.map_nodes.specs.Inside.Ready.{AreNinthIn, Suits}
 use Rattle.map_nodes.specs.Trails.{placed_kids}
 use Rattle.map_nodes.specs.declared.nodes.OwnChild.TheVariants.{Own}
 use Rattle.map_nodes.proofs.nodes.growing.grown_over.Goals as goal
@@ -32,10 +32,10 @@ finish-half-requires-clause-fits c =
     c.lower_first.ensures.texts ∙ ap (lowered i lower) (c.ready_over.ensures.texts ∙ texts) in
     let deep : c.depth-depth.result + 1 ≡ c.args.child.value.depth + 1 = ap (λ n. n + 1)
     (c.depth-depth.ensures ∙ ap (λ (s : Seen). s.depth) c.deref.ensures) in
-    subst (λ n. Fits n i c.lower_first.new.keys.texts (set c.in_ok-keys.kids.items i (Own kid)) c.args.half) (sym deep)
-    (subst (λ ks. Fits (c.args.child.value.depth + 1) i ks (set c.in_ok-keys.kids.items i (Own kid)) c.args.half)
+    subst (λ n. Suits n i c.lower_first.new.keys.texts (set c.in_ok-keys.kids.items i (Own kid)) c.args.half) (sym deep)
+    (subst (λ ks. Suits (c.args.child.value.depth + 1) i ks (set c.in_ok-keys.kids.items i (Own kid)) c.args.half)
     (sym now)
-    (subst (λ xs. Fits (c.args.child.value.depth + 1) i (lowered i lower (keys_of kids)) (set xs i (Own kid))
+    (subst (λ xs. Suits (c.args.child.value.depth + 1) i (lowered i lower (keys_of kids)) (set xs i (Own kid))
     c.args.half)
     (sym items) (c.requires.fits.fits lower kid low refl)))
 

@@ -3,7 +3,7 @@ use Rattle.group_history.specs.Refs.{stamp_of}
 use Rattle.map_chunks.specs.Seeking.{chunk_depth}
 use Rattle.map_chunks.specs.Shown.{chunk_rows, rows_or}
 use Rattle.map_nodes.proofs.UpdateLemmas.{made_order, made_root}
-use Rattle.map_nodes.specs.Inside.Laying.{IsReached}
+use Rattle.map_nodes.specs.Inside.Laying.{IsChunkEnd}
 use Rattle.map_nodes.specs.Trails.{trail_seen}
 use Rattle.map_nodes.specs.Updating.{IsPutIn, IsUpdated}
 use Rattle.map_nodes.proofs.roots.OwnRoot.settled.Goals as goal
@@ -16,7 +16,7 @@ returns-in-Laid g c u reached =
     let key = c.args.down.now.key.now in
     let rows = rows_or (chunk_rows p k) in
     let l = c.args.laying in
-    let h = subst (λ w. IsReached p may 1 true k (chunk_depth p k) rows key u w l) c.in-Laid.is reached in
+    let h = subst (λ w. IsChunkEnd p may 1 true k (chunk_depth p k) rows key u w l) c.in-Laid.is reached in
     let deep = h.4.0 in
     let end = h.4.2.0 in
     let seen = trail_seen (reverse l.steps.items) end in
@@ -31,7 +31,7 @@ pub of-requires : goal.of-requires
 of-requires g c =
     let p = g.C.Chunks.contents c.args.chunks.now in
     let k = stamp_of c.args.at in
-    let h = subst (λ w. IsReached p (g.C.Chunks.places c.args.chunks.now) 1 true k (chunk_depth p k)
+    let h = subst (λ w. IsChunkEnd p (g.C.Chunks.places c.args.chunks.now) 1 true k (chunk_depth p k)
     (rows_or (chunk_rows p k)) c.args.down.now.key.now c.requires.reached.0 w c.args.laying) c.in-Laid.is
     c.requires.reached.1 in
     (h.4.2.0, h.4.2.1, h.4.2.2)
@@ -41,7 +41,7 @@ topped-requires-clause-order g c =
     let p = g.C.Chunks.contents c.args.chunks.now in
     let may = g.C.Chunks.places c.args.chunks.now in
     let k = stamp_of c.args.at in
-    let h = subst (λ w. IsReached p may 1 true k (chunk_depth p k) (rows_or (chunk_rows p k)) c.args.down.now.key.now
+    let h = subst (λ w. IsChunkEnd p may 1 true k (chunk_depth p k) (rows_or (chunk_rows p k)) c.args.down.now.key.now
     c.requires.reached.0 w c.args.laying) c.in-Grown.is c.requires.reached.1 in (
       p,
       made_order p may 1 k h.3.0 c.args.down.now.key.now h.0 (chunk_rows p k) c.in-Grown.node.value c.in-Grown.half
@@ -57,7 +57,7 @@ returns-in_ok-root-in-Grown g c u reached =
     let rows = rows_or (chunk_rows p k) in
     let n = c.in-Grown.node.value in
     let half = c.in-Grown.half in
-    let h = subst (λ w. IsReached p may 1 true k (chunk_depth p k) rows key u w c.args.laying) c.in-Grown.is
+    let h = subst (λ w. IsChunkEnd p may 1 true k (chunk_depth p k) rows key u w c.args.laying) c.in-Grown.is
     reached in
     let root = c.in_ok-root-in-Grown.root in
     let made = c.made-in-Grown.ensures in

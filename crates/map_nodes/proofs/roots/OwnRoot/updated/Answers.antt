@@ -5,7 +5,7 @@ use Rattle.map_chunks.specs.Seeking.{chunk_depth}
 use Rattle.map_chunks.specs.Shown.{chunk_rows, rows_or, IsTree}
 use Rattle.map_nodes.proofs.DepthLemmas.{depth-low}
 use Rattle.map_nodes.proofs.UpdateLemmas.{updated_since}
-use Rattle.map_nodes.specs.Inside.Laying.{IsReached}
+use Rattle.map_nodes.specs.Inside.Laying.{IsChunkEnd}
 use Rattle.map_nodes.proofs.roots.OwnRoot.updated.Goals as goal
 
 pub settled-requires-clause-tree : goal.settled-requires-clause-tree
@@ -26,8 +26,8 @@ settled-requires-clause-reached g c =
     let rows = rows_later p q k c.change_at.ensures.grown.0 c.requires.tree in
     let depth = depth_later p q k c.change_at.ensures.grown.0 c.requires.tree in (
       r.0,
-      subst (λ w. IsReached q may 1 true k w (rows_or (chunk_rows q k)) key r.0 x l) (sym depth)
-          (subst (λ w. IsReached q may 1 true k (chunk_depth p k) (rows_or w) key r.0 x l) (sym rows) r.2),
+      subst (λ w. IsChunkEnd q may 1 true k w (rows_or (chunk_rows q k)) key r.0 x l) (sym depth)
+          (subst (λ w. IsChunkEnd q may 1 true k (chunk_depth p k) (rows_or w) key r.0 x l) (sym rows) r.2),
     )
 
 pub returns-clause-updated : goal.returns-clause-updated
@@ -42,8 +42,8 @@ returns-clause-updated g c =
     let r = c.in_ok-reached.ensures.reached in
     let rows = rows_later p q k c.change_at.ensures.grown.0 c.requires.tree in
     let depth = depth_later p q k c.change_at.ensures.grown.0 c.requires.tree in
-    let now = subst (λ w. IsReached q may 1 true k w (rows_or (chunk_rows q k)) key r.0 x l) (sym depth)
-    (subst (λ w. IsReached q may 1 true k (chunk_depth p k) (rows_or w) key r.0 x l) (sym rows) r.2) in (
+    let now = subst (λ w. IsChunkEnd q may 1 true k w (rows_or (chunk_rows q k)) key r.0 x l) (sym depth)
+    (subst (λ w. IsChunkEnd q may 1 true k (chunk_depth p k) (rows_or w) key r.0 x l) (sym rows) r.2) in (
       r.0,
       r.1,
       updated_since p q q may k key r.0 _ c.change_at.ensures.grown.0 c.requires.tree

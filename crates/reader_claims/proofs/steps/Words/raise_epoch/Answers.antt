@@ -1,6 +1,6 @@
 use Rattle.std.proofs.Common.{rules, refl, arith, ap, max, ◌+◌}
 use Rattle.reader_claims.specs.Views.{with_raise}
-use Rattle.reader_claims.specs.Machine.{left_by}
+use Rattle.reader_claims.specs.Machine.{left_there}
 use Rattle.reader_claims.proofs.Reaching.{raises_as}
 use Rattle.reader_claims.proofs.Readers.{stays, went}
 use Rattle.reader_claims.proofs.steps.Words.raise_epoch.Goals as goal
@@ -36,5 +36,5 @@ returns-clause-view c = ap (λ m. m.0) c.compare_exchange.ensures.2.1.0
 
 pub returns-clause-step : goal.returns-clause-step
 returns-clause-step c = let was = c.args.reader.now in let x = c.compare_exchange.result in
-    went was.seat.me c.compare_exchange.new.seat.me 0 0 x (left_by c.args.n (c.args.n + 1) x)
+    went was.seat.me c.compare_exchange.new.seat.me 0 0 x (left_there c.args.n (c.args.n + 1) x)
     (with_raise was.seat.me.0 (max x (c.args.n + 1))) refl c.compare_exchange.ensures.2.1

@@ -5,7 +5,7 @@ use Rattle.group_history.specs.Queries.{view_rows}
 use Rattle.group_history.specs.State.{view_of}
 use Rattle.head_word.specs.Books.{drawn, record_of}
 use Rattle.rebase.specs.Watching.{Watched}
-use Rattle.rebase.specs.Inside.Watching.{AreRead, CoversView, rows_told}
+use Rattle.rebase.specs.Inside.Watching.{AreRead, CoversView, rows_last_told}
 use Rattle.rebase.proofs.Polling.{covered_again}
 use Rattle.rebase.proofs.watching.Watch.has_covered.Goals as goal
 
@@ -18,5 +18,5 @@ returns-in-Some g c same =
     let one = covered_again own.mark.log at.log own.scan told.cover cover read.0
     (view_of means (after (record_of at.log))) c.begins_or_follows.ensures read.3 is
     ((bytes_decides told.cover cover).0 (sym c.eq.ensures ∙ same)) in
-    sym (ap (λ (w : Watched). w.last) c.self.view_is) ∙ ap rows_told c.in-Some.is ∙ ap Some (read.2 ∙ one) ∙ ap
+    sym (ap (λ (w : Watched). w.last) c.self.view_is) ∙ ap rows_last_told c.in-Some.is ∙ ap Some (read.2 ∙ one) ∙ ap
     (λ (w : Watched). Some (view_rows means (after (record_of at.log)) w.scan)) c.self.view_is

@@ -7,7 +7,7 @@ use Rattle.group_history.specs.Scans.{rows_of}
 use Rattle.group_history.specs.State.{view_of}
 use Rattle.head_word.specs.Books.{drawn, record_of}
 use Rattle.rebase.specs.Watching.{Watched}
-use Rattle.rebase.specs.Inside.Watching.{AreRead, rows_told}
+use Rattle.rebase.specs.Inside.Watching.{AreRead, rows_last_told}
 use Rattle.rebase.proofs.Polling.{read_again}
 use Rattle.rebase.proofs.watching.Watch.has_read.Goals as goal
 
@@ -19,6 +19,6 @@ returns-in-Some g c same =
     c.stamp-in-Some.ensures.stamp in
     let one = read_again own.mark.log at.log (stamp_of told.root) (stamp_of c.root.result) read.0
     (view_of means (after (record_of at.log))) c.begins_or_follows.ensures read.1 c.root.ensures stamps in
-    sym (ap (λ (w : Watched). w.last) c.self.view_is) ∙ ap rows_told c.in-Some.is ∙ ap Some
+    sym (ap (λ (w : Watched). w.last) c.self.view_is) ∙ ap rows_last_told c.in-Some.is ∙ ap Some
     (read.2 ∙ ap (rows_of own.scan) one) ∙ ap
     (λ (w : Watched). Some (view_rows means (after (record_of at.log)) w.scan)) c.self.view_is

@@ -5,7 +5,7 @@ use Rattle.head_word.specs.Books.{drawn}
 use Rattle.head_word.proofs.BookLaws.{drawn_begins}
 use Rattle.transactions.specs.Spans.{AreSpans}
 use Rattle.transactions.proofs.SpanLemmas.{spans_known}
-use Rattle.rebase.specs.Inside.Watching.{AreRead, rows_told}
+use Rattle.rebase.specs.Inside.Watching.{AreRead, rows_last_told}
 use Rattle.rebase.specs.Readers.{read_by, seen_by}
 use Rattle.rebase.specs.Watching.{Watched}
 use Rattle.rebase.proofs.Polling.{if_none, if_some}
@@ -35,7 +35,7 @@ returns-clause-same g c =
     (drawn_begins own.mark.log all c.mark_with-mark.ensures.other) read.4) in
     let found = c.in_ok-others.ensures.found (drawn all) (drawn_begins log all c.mark_with-mark.ensures.own) known in
     if_none c.in_ok-others.field-0.others (λ is. sym (ap (λ (w : Watched). w.last) c.self.view_is)
-    ∙ ap rows_told c.in-Some.is ∙ ap (λ (rows : Rows). Some rows) (sym c.as_slice.ensures ∙ is)
+    ∙ ap rows_last_told c.in-Some.is ∙ ap (λ (rows : Rows). Some rows) (sym c.as_slice.ensures ∙ is)
     ∙ ap (λ (w : Watched). Some (view_rows means s w.scan)) c.self.view_is)
     found.same
 

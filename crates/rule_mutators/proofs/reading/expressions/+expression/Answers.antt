@@ -4,7 +4,8 @@ use Rattle.serde_json.proofs.Views.{Entry}
 use Rattle.rule_mutators.specs.Answers.{IsFaultOf}
 use Rattle.rule_mutators.specs.Inside.Parts.{parts_behind}
 use Rattle.rule_mutators.specs.Reading.{two_said, field_said, fields_said, expression_said, name_said, item_at}
-use Rattle.rule_mutators.specs.Reading.{member_at, ◌>>=◌}
+use Rattle.group_history.specs.Answers.{◌>>=◌}
+use Rattle.rule_mutators.specs.Reading.{member_at}
 use Rattle.rule_mutators.specs.Rules as rule
 use Rattle.rule_mutators.specs.Views.{expression_of}
 use Rattle.rule_mutators.proofs.Answering.{refuses_on}

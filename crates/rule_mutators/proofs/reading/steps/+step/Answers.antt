@@ -2,7 +2,8 @@ use Rattle.std.proofs.Common.{rules, ◌≡◌, ◌<◌, ◌≤◌, ◌++◌, �
 use Rattle.serde_json.specs.View.{view, items_view}
 use Rattle.rule_mutators.specs.Answers.{IsFaultOf}
 use Rattle.rule_mutators.specs.Inside.Parts.{branches_behind}
-use Rattle.rule_mutators.specs.Reading.{choice_said, step_said, item_at, ◌>>=◌}
+use Rattle.group_history.specs.Answers.{◌>>=◌}
+use Rattle.rule_mutators.specs.Reading.{choice_said, step_said, item_at}
 use Rattle.rule_mutators.specs.declared.language.RuleStep.{the_lemmas}
 use Rattle.rule_mutators.specs.Rules as rule
 use Rattle.rule_mutators.specs.Views.{expression_of, step_of, all_steps}

@@ -1,6 +1,6 @@
 use Rattle.std.proofs.Common.{◌++◌, [], ◌∷◌, ◌∙◌, length, sym, ap}
 use Rattle.std.specs.String.{string_bytes}
-use Rattle.script_parser.proofs.Numbering.{Adds, Adds-from, IsNumbered-add, names_in-add, length-names_in}
+use Rattle.script_parser.proofs.Numbering.{Adds, Adds-from, IsNumbering-add, names_in-add, length-names_in}
 use Rattle.script_parser.proofs.names.ClientNames.add.Goals as goal
 
 pub invariant_of-self-2 : goal.invariant_of-self-2
@@ -9,7 +9,7 @@ invariant_of-self-2 c =
     let adds : Adds c.self.inside.numbers c.insert.new.self c.in_ok-name.name c.len-number.result =
     Adds-from c.args.name.now c.args.self.now c.self.view_is c.in_ok-name.ensures.ok c.requires c.len-number.ensures.len
     updates.entries updates.updates in
-    IsNumbered-add c.self.invariant adds
+    IsNumbering-add c.self.invariant adds
 
 pub returns-clause-number : goal.returns-clause-number
 returns-clause-number c =

@@ -3,7 +3,7 @@ use Rattle.script_parser.specs.Faults.{said_with}
 use Rattle.script_parser.specs.Kept.{without_lines}
 use Rattle.script_parser.specs.Reading.{TakesAs}
 use Rattle.script_parser.specs.Inside.Parsing.{context_of}
-use Rattle.script_parser.specs.Inside.Reading.{settled}
+use Rattle.script_parser.specs.Inside.Reading.{kept_after}
 use Rattle.script_parser.proofs.Kept.{IsSaidInRange, bare_beside, bare_settled, either, in_range, range_asked}
 use Rattle.script_parser.proofs.Kept.{range_settled, said_in_range, took}
 use Rattle.script_parser.proofs.reader.LineReader.take_text.Goals as goal
@@ -17,9 +17,9 @@ invariant_of-self-2 c =
     let range = range_asked old mid c.args.number c.args.line.now asked was.bare (said_in_range was.parser was.range)
     asks.0 in
     record {
-      bare = either (λ d. without_lines d ≡ d) c.settle.result mid (settled asked mid) new c.settle.ensures.settled
+      bare = either (λ d. without_lines d ≡ d) c.settle.result mid (kept_after asked mid) new c.settle.ensures.settled
           c.settle.ensures.left (bare_settled asked mid bare) bare;
-      range = in_range c.settle.new.self (either IsSaidInRange c.settle.result mid (settled asked mid) new
+      range = in_range c.settle.new.self (either IsSaidInRange c.settle.result mid (kept_after asked mid) new
           c.settle.ensures.settled c.settle.ensures.left (range_settled asked mid range) range);
     }
 

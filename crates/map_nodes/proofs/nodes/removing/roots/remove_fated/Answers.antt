@@ -1,7 +1,7 @@
 use Rattle.std.proofs.Common.{◌<◌, ◌-◌, ◌∙◌, ap, sym, subst, arith, refl, get_or, length, remove, Some}
 use Rattle.std.specs.Prelude.{IsSome}
 use Rattle.map_nodes.specs.Nodes.{body_pieces, child_levels}
-use Rattle.map_nodes.specs.Removing.{without}
+use Rattle.map_nodes.specs.Removing.{without_key}
 use Rattle.map_nodes.specs.Inside.Removing.{IsFate}
 use Rattle.map_nodes.proofs.RemoveLevels.{root_gone, still_root, thin_since}
 use Rattle.map_chunks.proofs.SearchLemmas.{got}
@@ -58,7 +58,7 @@ returns-then-gives_way-clause-done g c =
     (omega (arith, w.1, c.len.ensures, kids.ok.0)) x.0 (leaves_none key x.0.first x.0.way.here x.0.way.starts f) in
     heir-rows p (g.C.Chunks.contents c.heir.new.chunks)
     (remove kids.items i) c.heir.new.kids.items depth keys c.in_ok-heir.heir c.in_ok-heir.ensures.heir
-    ∙ last ∙ ap (λ z. Some (without key (rows_or z))) (sym x.0.rows_is)
+    ∙ last ∙ ap (λ z. Some (without_key key (rows_or z))) (sym x.0.rows_is)
 
 pub returns-then-gives_way-clause-levels : goal.returns-then-gives_way-clause-levels
 returns-then-gives_way-clause-levels g c =

@@ -1,7 +1,7 @@
 use Rattle.std.proofs.Common.{arith, length, ◌≡◌, ◌∙◌, ◌-◌, ap, sym, subst, refl, Some}
 use Rattle.std.specs.Prelude.{IsSome}
 use Rattle.map_nodes.specs.Nodes.{body_pieces, IsNode}
-use Rattle.map_nodes.specs.Removing.{without}
+use Rattle.map_nodes.specs.Removing.{without_key}
 use Rattle.map_chunks.specs.Search.{IsPlace}
 use Rattle.map_chunks.specs.Shown.{rows_or, IsTree}
 use Rattle.map_nodes.specs.declared.nodes.Body.TheVariants.{Inner}
@@ -73,7 +73,7 @@ returns-clause-done g c =
     let later = shown_later p q depth keys (Inner kids) kids
     (body_pieces depth keys (Inner kids)) c.fate_of.ensures.grown.0 refl refl c.requires.tree in
     if_ok_so c.remove_fated.result c.remove_fated.ensures.done
-    (λ heir done. done ∙ ap (λ z. Some (without c.args.key.now (rows_or z))) later)
+    (λ heir done. done ∙ ap (λ z. Some (without_key c.args.key.now (rows_or z))) later)
 
 pub returns-clause-grown : goal.returns-clause-grown
 returns-clause-grown g c =

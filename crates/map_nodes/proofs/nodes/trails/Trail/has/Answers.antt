@@ -3,7 +3,7 @@ use Rattle.std.specs.Arc.{arc_value}
 use Rattle.std.specs.Cmp.Lexicographic.{slice_cmp}
 use Rattle.std.specs.FinMap.{find}
 use Rattle.group_history.specs.Rows.{paired}
-use Rattle.map_chunks.specs.Seeking.{is_in}
+use Rattle.map_chunks.specs.Seeking.{is_key_in}
 use Rattle.map_chunks.specs.Shown.{Seen, shown, IsTree, rows_or}
 use Rattle.map_nodes.specs.Trails.{trail_seen}
 use Rattle.map_nodes.proofs.TrailLemmas.{trail_end}
@@ -24,5 +24,5 @@ returns-in-None-clause-has g c =
     subst (λ (s : Seen). IsTree (shown p s.pieces)
     → find (slice_cmp nat_cmp) key rows ≡ find (slice_cmp nat_cmp) key (rows_or (shown p s.pieces))) seen
     (c.in-None.ensures p) c.requires.tree in
-    c.has_key.ensures e.values.items same ∙ ap (λ w. is_in (paired w e.values.items) key) keys ∙ ap is_some found
-    ∙ ap (is_in (rows_or (shown p c.args.self.now.pieces))) c.new-searched.ensures
+    c.has_key.ensures e.values.items same ∙ ap (λ w. is_key_in (paired w e.values.items) key) keys ∙ ap is_some found
+    ∙ ap (is_key_in (rows_or (shown p c.args.self.now.pieces))) c.new-searched.ensures

@@ -19,7 +19,7 @@ use Rattle.map_nodes.proofs.LeafEnds.{leaf_reached}
 use Rattle.map_nodes.proofs.UnputLemmas.{handed_on}
 use Rattle.map_nodes.proofs.WayLemmas.{can_step, child_in, err_so, ok_so, reached_as, reached_up}
 use Rattle.map_nodes.specs.Changes.{Makes}
-use Rattle.map_nodes.specs.Inside.Laying.{IsReached}
+use Rattle.map_nodes.specs.Inside.Laying.{IsChunkEnd}
 use Rattle.map_nodes.proofs.nodes.trails.laying.+change.Goals as goal
 
 pub change_at-change_in-reached-requires : goal.change_at-change_in-reached-requires
@@ -66,11 +66,11 @@ change_at-returns-clause-reached g t c =
       h.0,
       subst (λ w. Makes (λ f x s. g.F.FnOnce.post f (x, tt) s) c.args.change
           (finite.find (slice_cmp nat_cmp) key (rows_or w)) (Ok h.0)) rows h.1,
-      subst (λ s. IsReached (g.C.Chunks.contents s) (g.C.Chunks.places s) copies as_trail k (chunk_depth p k)
+      subst (λ s. IsChunkEnd (g.C.Chunks.contents s) (g.C.Chunks.places s) copies as_trail k (chunk_depth p k)
           (rows_or (chunk_rows p k)) key h.0 r new.laying) (sym c.leave.ensures)
-          (subst (λ w. IsReached (g.C.Chunks.contents new.chunks) (g.C.Chunks.places new.chunks) copies as_trail k w
+          (subst (λ w. IsChunkEnd (g.C.Chunks.contents new.chunks) (g.C.Chunks.places new.chunks) copies as_trail k w
           (rows_or (chunk_rows p k)) key h.0 r new.laying) depth
-          (subst (λ w. IsReached (g.C.Chunks.contents new.chunks) (g.C.Chunks.places new.chunks) copies as_trail k
+          (subst (λ w. IsChunkEnd (g.C.Chunks.contents new.chunks) (g.C.Chunks.places new.chunks) copies as_trail k
           (chunk_depth q k) (rows_or w) key h.0 r new.laying) rows h.2)),
     ))
 

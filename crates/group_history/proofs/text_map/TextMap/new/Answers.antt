@@ -1,0 +1,7 @@
+use Rattle.std.proofs.Common.{◌∙◌, ap}
+use Rattle.std.specs.FinMap as map
+use Rattle.group_history.proofs.Places.{no_rows}
+use Rattle.group_history.proofs.text_map.TextMap.new.Goals as goal
+
+pub returns : goal.returns
+returns g c = ap map.from_sorted c.new.ensures.items ∙ no_rows
