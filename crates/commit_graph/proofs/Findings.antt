@@ -107,6 +107,17 @@ adds_one a b f joins noted =
       met = λ x h. elim (noted x h) [ inl e ↦ inl (own.0, own.1, own.2 ∙ sym e) | inr k ↦ inr k ];
     }
 
+-- what is known to be ahead or met need not be added
+pub adds_known : (w : Walked) (f : NamedNode) → HasStampIn w.ahead (stamp_in f) ⊎ Contains w.met (stamp_in f)
+    → Adds w (f ∷ []) w
+adds_known w f known = record {
+  from = λ g h. inl h;
+  kept = λ g h. (g, h, refl);
+  added = λ g h. subst (λ (v : NamedNode). HasStampIn w.ahead (stamp_in v) ⊎ Contains w.met (stamp_in v))
+      (only_one f g h) known;
+  met = λ x h. inr h;
+}
+
 pub adds_more : (a b d : Walked) (xs ys : List NamedNode) → Adds a xs b → Adds b ys d → Adds a (xs ++ ys) d
 adds_more a b d xs ys p q =
     let on : (x : ℕ) → HasStampIn b.ahead x

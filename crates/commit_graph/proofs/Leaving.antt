@@ -1,5 +1,5 @@
 -- What is left of one falling list beside another.
-use Rattle.std.proofs.Common.{◌≡◌, ◌≢◌, ℕ, zero, suc, ◌+◌, ◌<◌, ◌≤◌, inl, inr, List, [], ◌∷◌, ◌++◌, length, take}
+use Rattle.std.proofs.Common.{◌≡◌, ◌≢◌, ℕ, zero, suc, ◌+◌, ◌-◌, ◌<◌, ◌≤◌, inl, inr, List, [], ◌∷◌, ◌++◌, length, take}
 use Rattle.std.proofs.Common.{get_or, refl, ap, sym, subst, ◌∙◌, arith, ◌↔◌, length-take}
 use Rattle.std.specs.Prelude.{slice_index}
 use Rattle.std.specs.List.{Contains}
@@ -175,4 +175,43 @@ leaves_stamps before kept left is x = (
   λ q. (let r = map_from stamp_of before x q.0 in
       subst (Contains (stamps_of left)) r.2 (map_to stamp_of left r.0
       ((is r.0).1 (r.1, subst (λ (w : ℕ). Contains (stamps_of kept) w → ⊥) (sym r.2) q.1)))),
+)
+
+-- a falling list has nothing above its first, and nothing below its last
+below_first : (xs : List ℕ) (x : ℕ) → Falls xs → Contains xs x → x ≤ slice_index xs 0
+below_first xs x falls h = let f = found_at xs x h in let is : slice_index xs f.0 ≡ x = f.2 in
+    elim (cases_lt 0 f.0) [
+      | inl l ↦ (let e = falls_at xs 0 f.0 falls l f.1 in omega (arith, e, is))
+      | inr l ↦ (let z : f.0 ≡ 0 = omega (arith, l) in
+          let e : slice_index xs 0 ≡ x = ap (slice_index xs) (sym z) ∙ is in omega (arith, e))
+    ]
+
+above_last : (xs : List ℕ) (j : ℕ) → Falls xs → j < length xs → slice_index xs (length xs - 1) ≤ slice_index xs j
+above_last xs j falls low = elim (cases_lt j (length xs - 1)) [
+  | inl l ↦ (let e = falls_at xs j (length xs - 1) falls l (omega (arith, low)) in omega (arith, e))
+  | inr l ↦ (let z : j ≡ length xs - 1 = omega (arith, l, low) in
+      let e : slice_index xs j ≡ slice_index xs (length xs - 1) = ap (slice_index xs) z in omega (arith, e))
+]
+
+-- where the last of one list is above the first of the other, the other leaves nothing out
+pub apart : (before kept : List Ref) (d e : Ref) → Falls (stamps_of kept) → Falls (stamps_of before) → 0 < length kept
+    → 0 < length before → stamp_of (get_or before 0 d) < stamp_of (get_or kept (length kept - 1) e)
+    → Omits before kept before
+apart before kept d e kept_falls falls some more less r = (
+  λ h. (
+    h,
+    λ w. (let x = stamp_of r in
+        let top = below_first (stamps_of before) x falls (map_to stamp_of before r h) in
+        let first = stamp_at before 0 d more in
+        let last = stamp_at kept (length kept - 1) e (omega (arith, some)) in
+        let count = same_length kept in
+        let same : slice_index (stamps_of kept) (length (stamps_of kept) - 1)
+        ≡ slice_index (stamps_of kept) (length kept - 1) =
+        ap (λ (n : ℕ). slice_index (stamps_of kept) (n - 1)) count in
+        absent (stamps_of kept) (length (stamps_of kept)) x kept_falls
+        (λ j l. (let low = above_last (stamps_of kept) j kept_falls l in
+        omega (arith, low, top, first, last, same, less)))
+        (λ l. absurd (omega (arith, l))) w),
+  ),
+  λ q. q.0,
 )

@@ -17,5 +17,7 @@ mod Narrowing
 mod Noting
 mod Topping
 mod Rowing
+mod Lefts
+mod Mixing
 pub mod Seating
 pub mod Gathering

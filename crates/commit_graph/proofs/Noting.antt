@@ -1,8 +1,8 @@
 -- Stamps that are noted as met, by one step after the other.
-use Rattle.std.proofs.Common.{◌≡◌, ◌<◌, ℕ, inl, inr, List, [], ◌∷◌, ◌++◌, Some, refl, sym, subst, ◌∙◌}
+use Rattle.std.proofs.Common.{◌≡◌, ◌<◌, ℕ, ◌⊎◌, inl, inr, List, [], ◌∷◌, ◌++◌, Some, refl, sym, subst, ◌∙◌}
 use Rattle.std.specs.List.{Contains}
 use Rattle.std.proofs.lemmas.List.{map-append}
-use Rattle.std.proofs.lemmas.List.Elements.{Contains-append_left, Contains-append_right}
+use Rattle.std.proofs.lemmas.List.Elements.{Contains-append_cases, Contains-append_left, Contains-append_right}
 use mathlib.Core.List.{IsPrefix}
 use Rattle.group_history.specs.declared.nodes.Chunk.{Chunk}
 use Rattle.group_history.specs.declared.nodes.Node.TheVariants as node
@@ -11,11 +11,12 @@ use Rattle.group_history.specs.Map.{Bytes}
 use Rattle.group_history.specs.Naming.{children, chunk_children, content_of}
 use Rattle.group_history.specs.Refs.{stamp_of}
 use Rattle.group_history.specs.Spelling.{Contents, Segment, segment_at}
-use Rattle.group_history.proofs.Lists.{one_here, map_from, map_to}
+use Rattle.group_history.proofs.Lists.{cons_cases, first_here, later_here, map_from, map_to, no_element, one_here}
+use Rattle.commit_graph.specs.declared.founds.NamedNode.{NamedNode}
 use Rattle.commit_graph.specs.declared.founds.NamedNode.TheVariants as found
 use Rattle.commit_graph.specs.Inside.Meeting.{child_for, LiesChunk}
 use Rattle.commit_graph.specs.Reach.{Reaches, stamps_of}
-use Rattle.commit_graph.specs.Inside.Reach.{Notes, Walked, found_in, stamp_in}
+use Rattle.commit_graph.specs.Inside.Reach.{Adds, HasStampIn, Notes, Walked, found_in, stamp_in}
 use Rattle.commit_graph.proofs.Descending.{child_may}
 use Rattle.commit_graph.proofs.Reached.{child_there, found_stamps, names_spelled, reaches_child, reaches_stays}
 use Rattle.commit_graph.proofs.Reached.{there_segment}
@@ -45,6 +46,72 @@ notes_one rs r n a b c is first second =
     (notes_wider (λ x. x ≡ n) (Contains (stamps_of rs ++ stamp_of r ∷ [])) b c
     (λ x e. subst (λ (m : ℕ). Contains (stamps_of rs ++ stamp_of r ∷ []) m) (sym (e ∙ is))
     (Contains-append_right (stamps_of rs) (stamp_of r ∷ []) (stamp_of r) (one_here (stamp_of r)))) second))
+
+-- those of which the second holds
+gathered : (A B : ℕ → Type 0) (ms : List ℕ) → ((x : ℕ) → Contains ms x → A x ⊎ B x)
+    → (ns : List ℕ) × ((x : ℕ) → Contains ns x → B x) × ((x : ℕ) → Contains ms x → A x ⊎ Contains ns x)
+gathered A B [] all = ([], λ x h. absurd (no_element x h), λ x h. absurd (no_element x h))
+gathered A B (m ∷ ms) all =
+    let rest = gathered A B ms (λ x h. all x (later_here m ms x h)) in
+    elim (all m (first_here m ms)) [
+      | inl a ↦ (
+        rest.0,
+        rest.1,
+        λ x h. elim (cons_cases m ms x h) [ inl e ↦ inl (subst A e a) | inr q ↦ rest.2 x q ],
+      )
+      | inr b ↦ (
+        m ∷ rest.0,
+        λ x h. elim (cons_cases m rest.0 x h) [ inl e ↦ subst B e b | inr q ↦ rest.1 x q ],
+        λ x h. elim (cons_cases m ms x h) [
+          | inl e ↦ inr (subst (λ (w : ℕ). Contains (m ∷ rest.0) w) e (first_here m rest.0))
+          | inr q ↦ elim (rest.2 x q) [ inl i ↦ inl i | inr j ↦ inr (later_here m rest.0 x j) ]
+        ],
+      )
+    ]
+
+-- Some were added, then some stamps were noted, then the others were added: so they would be, were the stamps noted
+-- first.
+pub noted_first : (may : ℕ → Type 0) (a b c d : Walked) (xs ys whole : List NamedNode) → whole ≡ xs ++ ys → Adds a xs b
+    → Notes may b c → Adds c ys d → (noted : Walked) × Notes may a noted × Adds noted whole d
+noted_first may a b c d xs ys whole is first notes rest =
+    let on : (x : ℕ) → HasStampIn b.ahead x → HasStampIn d.ahead x =
+    λ x h. (let k = rest.kept h.0 (subst (λ (w : List NamedNode). Contains w h.0) (sym notes.0) h.1) in
+    (k.0, k.1, k.2 ∙ h.2)) in
+    let known = gathered (λ x. HasStampIn d.ahead x ⊎ Contains a.met x) may c.met
+    (λ x h. elim (notes.1 x h) [
+      | inl p ↦ elim (first.met x p) [ inl i ↦ inl (inl (on x i)) | inr j ↦ inl (inr j) ]
+      | inr q ↦ inr q
+    ]) in
+    let noted : Walked = record { ahead = a.ahead; met = known.0 ++ a.met } in
+    let back : (f : NamedNode) → Contains (xs ++ ys) f → Contains whole f =
+    λ f h. subst (λ (w : List NamedNode). Contains w f) (sym is) h in
+    let either : (x : ℕ) → Contains c.met x → HasStampIn d.ahead x ⊎ Contains noted.met x =
+    λ x h. elim (known.2 x h) [
+      | inl p ↦ elim p [ inl i ↦ inl i | inr j ↦ inr (Contains-append_right known.0 a.met x j) ]
+      | inr q ↦ inr (Contains-append_left known.0 a.met x q)
+    ] in (
+      noted,
+      (
+        refl,
+        λ x h. elim (Contains-append_cases known.0 a.met x h) [ inl p ↦ inr (known.1 x p) | inr q ↦ inl q ],
+      ),
+      record {
+        from = λ f h. elim (rest.from f h) [
+          | inl p ↦ elim (first.from f (subst (λ (w : List NamedNode). Contains w f) notes.0 p))
+              [ inl i ↦ inl i | inr j ↦ inr (back f (Contains-append_left xs ys f j)) ]
+          | inr q ↦ inr (back f (Contains-append_right xs ys f q))
+        ];
+        kept = λ f h. on (stamp_in f) (first.kept f h);
+        added = λ f h. elim (Contains-append_cases xs ys f (subst (λ (w : List NamedNode). Contains w f) is h)) [
+          | inl p ↦ elim (first.added f p) [
+            | inl i ↦ inl (on (stamp_in f) i)
+            | inr j ↦ inr (Contains-append_right known.0 a.met (stamp_in f) j)
+          ]
+          | inr q ↦ elim (rest.added f q) [ inl i ↦ inl i | inr j ↦ either (stamp_in f) j ]
+        ];
+        met = λ x h. elim (rest.met x h) [ inl i ↦ inl i | inr j ↦ either x j ];
+      },
+    )
 
 -- what a root reaches it reaches in more contents too
 pub notes_grown : (ns more : Contents) (root : ℕ) (a b : Walked) → IsPrefix ns more → Notes (Reaches ns root) a b

@@ -1,7 +1,8 @@
 -- Rows of what is ahead.
 use Rattle.std.proofs.Common.{◌≡◌, ◌<◌, ◌≤◌, ℕ, zero, suc, ◌+◌, inl, inr, List, [], ◌∷◌, ◌++◌, length, take, replicate}
-use Rattle.std.proofs.Common.{Option, Some, None, refl, ap, sym, subst, ◌∙◌, arith}
-use Rattle.std.specs.Prelude.{IfSome, slice_set}
+use Rattle.std.proofs.Common.{get_or, Option, Some, None, refl, ap, sym, subst, ◌∙◌, arith}
+use Rattle.std.specs.Prelude.{IfSome, IsTrue, slice_set}
+use Rattle.std.specs.Option.{is_some}
 use Rattle.std.specs.List.{Contains}
 use Rattle.std.proofs.lemmas.List.{append-nil, take_all}
 use Rattle.std.proofs.lemmas.List.Elements.{Contains-append_cases, Contains-append_left, Contains-append_right}
@@ -177,3 +178,14 @@ pub fresh : (low : ℕ) (xs rs : List (Option NamedNode)) (n m : ℕ) → xs ≡
 fresh low xs rs n m none is =
     resized low [] rs n m (omega arith)
     (is ∙ ap (λ (w : List (Option NamedNode)). take n w ++ replicate m None) none) tt
+
+-- what stands at a place bears its stamp
+pub stands_at : (low : ℕ) (xs : List (Option NamedNode)) (i : ℕ) (d : Option NamedNode) → StandFrom low xs
+    → i < length xs → IsTrue (is_some (get_or xs i d))
+    → (f : NamedNode) × Contains (row_nodes xs) f × (stamp_in f ≡ low + i)
+stands_at low [] i d is inside some = absurd (omega (arith, inside))
+stands_at low (None ∷ xs) zero d is inside some = absurd (cc some)
+stands_at low (Some f ∷ xs) zero d is inside some = (f, first_here f (row_nodes xs), omega (arith, is.0))
+stands_at low (o ∷ xs) (suc i) d is inside some =
+    let more = stands_at (suc low) xs i d is.1 (omega (arith, inside)) some in
+    (more.0, Contains-append_right (listed o) (row_nodes xs) more.0 more.1, omega (arith, more.2))

@@ -7,3 +7,4 @@ pub mod Meeting
 pub mod Kinds
 pub mod Gaps
 pub mod Telling
+pub mod Left

@@ -2,10 +2,10 @@
 //!
 //! The newest stand in a row, beside a tree of the others. Where the row is at its end, it begins anew a few stamps
 //! below the next one that is put in; so what a chunk names is mostly near, and the tree has what is far.
-ghost use Rattle.std.specs.Prelude.{◌≡◌, ◌<◌, ◌++◌, [], ◌∷◌, ℕ, map, IfOk, IfSome, IfNone, IsTrue, OnOk};
+ghost use Rattle.std.specs.Prelude.{◌≡◌, ◌<◌, ◌++◌, [], ◌∷◌, ℕ, true, false, map, IfOk, IfSome, IfNone, IsTrue, OnOk};
 ghost use Rattle.std.specs.BTreeMap.{keys};
 ghost use Rattle.std.specs.List.{Contains};
-ghost use Rattle.commit_graph.specs.Inside.Reach.{stamp_in, AreKeyed, AreUnder, Joins};
+ghost use Rattle.commit_graph.specs.Inside.Reach.{stamp_in, AreKeyed, AreUnder, HasStampIn, Joins};
 ghost use Rattle.commit_graph.specs.declared.founds.NamedNode.{NamedNode as Finding};
 
 use crate::founds::NamedNode;
@@ -94,6 +94,15 @@ impl Ahead {
         }
     }
 
+    /// Puts a node into the row where it has a place there; whether it has one.
+    #[inline(always)]
+    pub fn puts_near(&mut self, found: NamedNode) -> bool
+        ensures put { result ≡ true → Joins self.old (found ∷ []) self.new }
+        ensures none { result ≡ false → self.new ≡ self.old }
+    {
+        self.near.puts(found)
+    }
+
     /// Puts a node in. Of two of one stamp one stays.
     pub fn put(&mut self, found: NamedNode) -> Result<(), AllocError>
         ensures { OnOk result (Joins self.old (found ∷ []) self.new) }
@@ -105,6 +114,13 @@ impl Ahead {
             return Ok(());
         }
         self.near.put(found)
+    }
+
+    /// Whether the row has a node of the stamp.
+    pub fn is_near(&self, stamp: u64) -> bool
+        ensures { IsTrue result → HasStampIn self.now stamp }
+    {
+        self.near.has(stamp)
     }
 
     /// Takes the node of the greatest stamp.

@@ -2,10 +2,10 @@
 //!
 //! Children have smaller stamps than their parents. So a walk that always takes the greatest stamp meets
 //! no node twice, and needs no set of all that it has met. What it knows of that only spares it to add a node once
-//! more.
-ghost use Rattle.std.specs.Prelude.{◌≡◌, ◌<◌, ◌++◌, [], ◌∷◌, ℕ, IfOk, IsTrue, OnOk, IfSome, IfNone};
+//! more. What is near tells that itself, so only what is far, and what a root keeps, is noted.
+ghost use Rattle.std.specs.Prelude.{◌≡◌, ◌⊎◌, ◌<◌, ◌++◌, [], ◌∷◌, ℕ, IfOk, IsTrue, OnOk, IfSome, IfNone};
 ghost use Rattle.std.specs.List.{Contains};
-ghost use Rattle.commit_graph.specs.Inside.Reach.{stamp_in, Adds, Notes};
+ghost use Rattle.commit_graph.specs.Inside.Reach.{stamp_in, Adds, HasStampIn, Notes};
 ghost use Rattle.commit_graph.specs.declared.founds.NamedNode.{NamedNode as Finding};
 
 use crate::ahead::{Ahead, stamp_in};
@@ -42,33 +42,46 @@ impl Frontier {
         Ok(Frontier { ahead, met })
     }
 
-    /// Adds a node, unless it is known to be met.
+    /// Adds a node, unless it is known to be ahead or met.
     #[inline(always)]
     pub fn add(&mut self, found: NamedNode) -> Result<(), AllocError>
         ensures { OnOk result (Adds self.old (found ∷ []) self.new) }
     {
-        if self.met.has(stamp_in(found)) {
+        if self.knows(stamp_in(found)) {
             return Ok(());
         }
         self.add_new(found)
     }
 
-    // Adds a node that isn't known to be met. Most are, so this stays out of the loops that add.
+    /// Adds a node that isn't known.
+    #[inline(always)]
+    pub fn add_new(&mut self, found: NamedNode) -> Result<(), AllocError>
+        ensures { OnOk result (Adds self.old (found ∷ []) self.new) }
+    {
+        if self.ahead.puts_near(found) {
+            return Ok(());
+        }
+        self.add_far(found)
+    }
+
+    // Adds a node that has no place in the row. Few are, so this stays out of the loops that add.
     #[inline(never)]
-    fn add_new(&mut self, found: NamedNode) -> Result<(), AllocError>
+    fn add_far(&mut self, found: NamedNode) -> Result<(), AllocError>
         ensures { OnOk result (Adds self.old (found ∷ []) self.new) }
     {
         let stamp = stamp_in(found);
         self.ahead.put(found)?;
-        self.met.note(stamp);
+        if !self.ahead.is_near(stamp) {
+            self.met.note(stamp);
+        }
         Ok(())
     }
 
-    /// Whether a stamp is known to be met. Not all that were met are known.
+    /// Whether a stamp is known to be ahead or met. Not all that were met are known.
     pub fn knows(&self, stamp: u64) -> bool
-        ensures { IsTrue result → Contains self.now.met stamp }
+        ensures { IsTrue result → HasStampIn self.now.ahead stamp ⊎ Contains self.now.met stamp }
     {
-        self.met.has(stamp)
+        self.ahead.is_near(stamp) || self.met.has(stamp)
     }
 
     /// Notes a stamp as met, so that its node is not added.

@@ -33,6 +33,7 @@ mod frontiers;
 mod gaps;
 mod handing;
 mod keeping;
+mod left;
 mod looks;
 mod meeting;
 mod merging;
@@ -48,14 +49,15 @@ mod telling;
 
 pub use chains::{Base, Top};
 pub use handing::{TakesMutations, hand_pending};
+pub use left::walk_left;
 pub use map_chunks::VecChunks as VecNodes;
 pub use nodes::{Nodes, ShowsCommit};
 pub use reaching::dropped;
 pub use seats::{ClientSeat, Shared};
 pub use shelves::LentCommit;
 pub use states::{
-    CommitState, LastId, SoughtId, base_at, base_of, closed_of, cookie_of, last_id_since,
-    read_root, state_of, top_of, walk,
+    CommitState, LastId, NEAR_COMMITS, SoughtId, base_at, base_of, closed_of, cookie_of,
+    last_id_since, read_root, state_of, top_of, walk,
 };
 pub use stores::{HeldChunk, HeldCommit, StoreNodes};
 pub use telling::last_ids_at;

@@ -1,6 +1,6 @@
 //! One look of a walk: a node is shown, and what it names joins the frontier.
-ghost use Rattle.std.specs.Prelude.{◌≡◌, ◌⊎◌, ◌∷◌, [], length, map, take, Some, IfOk, OnOk, IfErr, IfNone, IsSome};
-ghost use Rattle.std.specs.Prelude.{slice_get};
+ghost use Rattle.std.specs.Prelude.{◌≡◌, ◌⊎◌, ◌∷◌, [], drop, length, map, take, slice_get, Some};
+ghost use Rattle.std.specs.Prelude.{IfOk, OnOk, IfErr, IfNone, IfSome, IsSome};
 ghost use Rattle.group_history.specs.Refs.{stamp_of};
 ghost use Rattle.group_history.specs.Spelling.{segment_at, map_at};
 ghost use Rattle.group_history.specs.declared.nodes.Chunk.{Chunk as Chunked};
@@ -32,6 +32,25 @@ fn add_chunks(frontier: &mut Frontier, roots: &[Ref]) -> Result<(), AllocError>
         frontier.add(NamedNode::Chunk(*root))?;
     }
     Ok(())
+}
+
+// Adds the children from a place on.
+fn add_from(frontier: &mut Frontier, children: &[Ref], from: usize) -> Result<(), AllocError>
+    ensures { OnOk result (Adds frontier.old (drop from (map found.Chunk children.now)) frontier.new) }
+{
+    for place in from..children.len() {
+        frontier.add(NamedNode::Chunk(children[place]))?;
+    }
+    Ok(())
+}
+
+fn add_rest(frontier: &mut Frontier, chunk: &Chunk<Ref>, from: usize) -> Result<(), AllocError>
+    ensures { OnOk result (Adds frontier.old (drop from (found_in (node.Chunk chunk.now))) frontier.new) }
+{
+    match chunk {
+        Chunk::Leaf(_) => add_from(frontier, &[], from),
+        Chunk::Inner(inner) => add_from(frontier, inner.children(), from),
+    }
 }
 
 fn add_of_chunk(frontier: &mut Frontier, chunk: &Chunk<Ref>) -> Result<(), AllocError>
@@ -66,61 +85,96 @@ fn add_of_commit(frontier: &mut Frontier, commit: &Commit<Ref>) -> Result<(), Al
     add_named(frontier, &commit.kind)
 }
 
-// A child of which a look alone can tell whether the part's root keeps it.
-fn unsure_of(
-    frontier: &Frontier,
+// The children join the frontier, up to the first of which a look alone can tell whether the part's root keeps it: the
+// place of that one.
+fn add_sure(
+    frontier: &mut Frontier,
     part: KeptPart,
-    firsts: &[Text],
     children: &[Ref],
-) -> Result<Option<ChunkPlace>, AllocError>
-    requires { length children.now ≡ length firsts.now }
+) -> Result<Option<usize>, AllocError>
+    ensures none { IfOk result (λ told. IfNone told
+        (Adds frontier.old (map found.Chunk children.now) frontier.new)) }
+    ensures some { IfOk result (λ told. IfSome told (λ from.
+        Adds frontier.old (take from (map found.Chunk children.now)) frontier.new)) }
 {
     let newest = part.root.stamp();
     for place in 0..children.len() {
         let child = children[place];
         let stamp = child.stamp();
-        if frontier.knows(stamp) || stamp > newest || part.gap.has(child) {
+        if frontier.knows(stamp) {
             continue;
         }
-        let key = firsts[place].clone()?;
-        return Ok(Some(ChunkPlace { key, stamp }));
+        if stamp <= newest && !part.gap.has(child) {
+            return Ok(Some(place));
+        }
+        frontier.add_new(NamedNode::Chunk(child))?;
     }
     Ok(None)
 }
 
-fn unsure_in(
-    frontier: &Frontier,
-    part: KeptPart,
-    chunk: &Chunk<Ref>,
-) -> Result<Option<ChunkPlace>, AllocError> {
-    match chunk {
-        Chunk::Leaf(_) => Ok(None),
-        Chunk::Inner(_) if part.gap.is_empty() => Ok(None),
-        Chunk::Inner(inner) => unsure_of(
-            frontier,
-            part,
-            inner.firsts().as_slice(),
-            inner.children(),
-        ),
-    }
-}
-
-// The children join the frontier, unless it is worth a descent to find out which are kept. Where a pull changed so much
-// that there is no gap, few are, and each descent would be one more.
+// The children join the frontier, up to the first for which it is worth a descent to find out which are kept. Where a
+// pull changed so much that there is no gap, few are, and each descent would be one more.
 fn add_or_tell(
     frontier: &mut Frontier,
     part: KeptPart,
     chunk: &Chunk<Ref>,
-) -> Result<Option<ChunkPlace>, AllocError>
-    ensures none { IfOk result (λ spot. IfNone spot
+) -> Result<Option<usize>, AllocError>
+    ensures none { IfOk result (λ told. IfNone told
         (Adds frontier.old (found_in (node.Chunk chunk.now)) frontier.new)) }
-    ensures some { IfOk result (λ spot. IsSome spot → frontier.new ≡ frontier.old) }
+    ensures some { IfOk result (λ told. IfSome told (λ from.
+        Adds frontier.old (take from (found_in (node.Chunk chunk.now))) frontier.new)) }
 {
-    let spot = unsure_in(frontier, part, chunk)?;
-    if spot.is_none() {
-        add_of_chunk(frontier, chunk)?;
+    match chunk {
+        Chunk::Inner(inner) if !part.gap.is_empty() => add_sure(frontier, part, inner.children()),
+        _ => {
+            add_of_chunk(frontier, chunk)?;
+            Ok(None)
+        }
     }
-    Ok(spot)
+}
+
+// Where the child of a place stands.
+fn spot_of(
+    firsts: &[Text],
+    children: &[Ref],
+    place: usize,
+) -> Result<Option<ChunkPlace>, AllocError> {
+    if place >= children.len() || place >= firsts.len() {
+        return Ok(None);
+    }
+    let key = firsts[place].clone()?;
+    let stamp = children[place].stamp();
+    Ok(Some(ChunkPlace { key, stamp }))
+}
+
+fn spot_in(chunk: &Chunk<Ref>, place: usize) -> Result<Option<ChunkPlace>, AllocError> {
+    match chunk {
+        Chunk::Leaf(_) => Ok(None),
+        Chunk::Inner(inner) => spot_of(inner.firsts().as_slice(), inner.children(), place),
+    }
+}
+
+// Notes what a root's tree has beside the child at a place of a chunk.
+fn note_at<C: Chunks>(
+    chunks: &mut C,
+    part: KeptPart,
+    frontier: &mut Frontier,
+    at: Ref,
+    place: usize,
+) -> Result<(), Stop>
+    requires chunk { IsSome (segment_at (C.contents chunks.old) (stamp_of at)) }
+    requires root { IsSome (map_at (C.contents chunks.old) (stamp_of part.root)) }
+    requires places { C.places chunks.old part.root × C.places chunks.old at }
+    ensures grown { Grows C.contents C.places chunks.old chunks.new }
+    ensures noted { OnOk result
+        (Notes (Reaches (C.contents chunks.new) (stamp_of part.root)) frontier.old frontier.new) }
+    ensures stopped { IfErr result (λ stop. (stop ≡ NoMemory) ⊎ C.stops stop) }
+{
+    let spot = look_at(chunks, at, &mut |chunk| { spot_in(chunk, place) })??;
+    let Some(spot) = spot else {
+        return Ok(());
+    };
+    Ok(note_beside(chunks, part.root, frontier, &spot)?)
 }
 
 // Shows a chunk; its children join the frontier, but for some that the part's root keeps.
@@ -140,25 +194,27 @@ fn look_at_chunk<C: Chunks>(
         × Adds noted (found_in (node.Chunk c)) frontier.new) }
     ensures stopped { IfErr result (λ stop. (stop ≡ NoMemory) ⊎ C.stops stop) }
 {
-    let spot = look_at(
+    let unsure = look_at(
         chunks,
         at,
         &mut |chunk|
-            ensures none { IfOk result (λ spot. IfNone spot
+            ensures none { IfOk result (λ told. IfNone told
                 (Adds frontier.entry.now (found_in (node.Chunk chunk.now)) frontier.exit.now)) }
-            ensures some { IfOk result (λ spot. IsSome spot → frontier.exit.now ≡ frontier.entry.now) }
+            ensures some { IfOk result (λ told. IfSome told (λ from.
+                Adds frontier.entry.now (take from (found_in (node.Chunk chunk.now))) frontier.exit.now)) }
         { add_or_tell(frontier, part, chunk) },
     )??;
-    let Some(spot) = spot else {
+    let Some(from) = unsure else {
         return Ok(());
     };
-    note_beside(chunks, part.root, frontier, &spot)?;
+    note_at(chunks, part, frontier, at, from)?;
     Ok(look_at(
         chunks,
         at,
         &mut |chunk|
-            ensures { OnOk result (Adds frontier.entry.now (found_in (node.Chunk chunk.now)) frontier.exit.now) }
-        { add_of_chunk(frontier, chunk) },
+            ensures { OnOk result (Adds frontier.entry.now (drop from (found_in (node.Chunk chunk.now)))
+                frontier.exit.now) }
+        { add_rest(frontier, chunk, from) },
     )??)
 }
 

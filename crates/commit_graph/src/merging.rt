@@ -1,5 +1,6 @@
 //! Two lists of references by falling stamps, gone through side by side.
-ghost use Rattle.std.specs.Prelude.{◌≡◌, ◌≢◌, ◌<◌, ◌≤◌, ◌++◌, ◌∷◌, [], ℕ, true, false, length, slice_index, IfOk, OnOk};
+ghost use Rattle.std.specs.Prelude.{◌≡◌, ◌≢◌, ◌<◌, ◌≤◌, ◌++◌, ◌∷◌, [], ℕ, true, false, length, slice_index};
+ghost use Rattle.std.specs.Prelude.{IfOk, IsTrue, OnOk};
 ghost use Rattle.std.specs.Bool.{Decides};
 ghost use Rattle.group_history.specs.Refs.{stamp_of};
 ghost use Rattle.commit_graph.specs.Reach.{Falls, stamps_of};
@@ -39,8 +40,33 @@ fn is_at(kept: &[Ref], place: usize, stamp: u64) -> bool
     place < kept.len() && kept[place].stamp() == stamp
 }
 
+// Whether all of one list are above all of the other, as where a new head made all its nodes anew.
+fn is_above(kept: &[Ref], before: &[Ref]) -> bool
+    requires kept { Falls (stamps_of kept.now) }
+    requires before { Falls (stamps_of before.now) }
+    ensures { IsTrue result → Omits before.now kept.now before.now }
+{
+    if kept.is_empty() || before.is_empty() {
+        return true;
+    }
+    kept[kept.len() - 1].stamp() > before[0].stamp()
+}
+
 /// What stands in one list and has no stamp of the other. Both fall, and so does the result.
-pub fn without(alloc: Global, before: &[Ref], kept: &[Ref]) -> Result<Vec<Ref>, AllocError>
+pub fn without(alloc: Global, before: Vec<Ref>, kept: &[Ref]) -> Result<Vec<Ref>, AllocError>
+    requires before { Falls (stamps_of before.items) }
+    requires kept { Falls (stamps_of kept.now) }
+    ensures exact { IfOk result (λ left. Omits before.items kept.now left.items) }
+    ensures once { IfOk result (λ left. Falls (stamps_of left.items)) }
+{
+    if is_above(kept, &before) {
+        return Ok(before);
+    }
+    among(alloc, &before, kept)
+}
+
+// The same, by a pass over both.
+fn among(alloc: Global, before: &[Ref], kept: &[Ref]) -> Result<Vec<Ref>, AllocError>
     requires before { Falls (stamps_of before.now) }
     requires kept { Falls (stamps_of kept.now) }
     ensures exact { IfOk result (λ left. Omits before.now kept.now left.items) }

@@ -2,9 +2,9 @@
 //!
 //! The nodes of a draft bear stamps one behind the other, and a walk comes to most of them. So each is put at the place
 //! of its stamp, and the next one to be taken stands a few places before the last.
-ghost use Rattle.std.specs.Prelude.{◌≡◌, ◌<◌, ◌≤◌, ◌++◌, [], ◌∷◌, IfOk, OnOk, IsTrue, IfSome, IfNone};
+ghost use Rattle.std.specs.Prelude.{◌≡◌, ◌<◌, ◌≤◌, ◌++◌, [], ◌∷◌, true, false, IfOk, OnOk, IsTrue, IfSome, IfNone};
 ghost use Rattle.std.specs.List.{Contains};
-ghost use Rattle.commit_graph.specs.Inside.Reach.{Joins, stamp_in};
+ghost use Rattle.commit_graph.specs.Inside.Reach.{HasStampIn, Joins, stamp_in};
 ghost use Rattle.commit_graph.specs.declared.founds.NamedNode.{NamedNode as Finding};
 
 use crate::ahead::stamp_in;
@@ -59,6 +59,36 @@ impl Near {
     {
         self.row.clear();
         self.low = low;
+    }
+
+    /// Whether it has a node of the stamp.
+    pub fn has(&self, stamp: u64) -> bool
+        ensures { IsTrue result → HasStampIn self.now.nodes stamp }
+    {
+        if stamp < self.low {
+            return false;
+        }
+        let place = (stamp - self.low) as usize;
+        place < self.row.len() && self.row[place].is_some()
+    }
+
+    /// Puts a node in where there is a place of its stamp; whether there is one.
+    #[inline(always)]
+    pub fn puts(&mut self, found: NamedNode) -> bool
+        ensures low { self.new.low ≡ self.old.low }
+        ensures put { result ≡ true → Joins self.old.nodes (found ∷ []) self.new.nodes }
+        ensures none { result ≡ false → self.new ≡ self.old }
+    {
+        let stamp = stamp_in(found);
+        if stamp < self.low {
+            return false;
+        }
+        let place = (stamp - self.low) as usize;
+        if place >= self.row.len() {
+            return false;
+        }
+        self.row[place] = Some(found);
+        true
     }
 
     /// Puts a node in. Of two of one stamp one stays.

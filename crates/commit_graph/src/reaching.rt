@@ -149,6 +149,6 @@ pub fn dropped<N: Nodes>(alloc: Global, nodes: &mut N, old: Ref, new: Ref) -> Re
     let part = kept_part(nodes, old, new)?;
     let kept = reachable(alloc, nodes, new, part)?;
     let before = reachable(alloc, nodes, old, part)?;
-    let left = without(alloc, &before, &kept)?;
+    let left = without(alloc, before, &kept)?;
     Ok(left)
 }

@@ -228,8 +228,8 @@ pub struct SoughtId {
     pub is_far: bool,
 }
 
-// How many commits a walk may look at that isn't far.
-const NEAR: u32 = 32;
+/// How many commits a walk for a last id may look at that isn't far.
+pub const NEAR_COMMITS: u32 = 32;
 
 // The id that was found before, at the commit where it was found.
 fn found_at(before: Option<LastId>, at: Ref) -> Option<u64>
@@ -292,7 +292,7 @@ fn last_id_from<N: Nodes>(
     ensures stopped { IfErr result N.stops }
 {
     let mut next = Some(head);
-    let mut left = NEAR;
+    let mut left = NEAR_COMMITS;
     while let Some(at) = next {
         let is_far = left == 0;
         if let Some(id) = found_at(before, at) {

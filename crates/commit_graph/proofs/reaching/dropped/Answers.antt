@@ -45,9 +45,8 @@ returns-clause-exact g c =
     let old = stamp_of c.args.old in let new = stamp_of c.args.new in let root = stamp_of c.in_ok-part.part.root in
     let v = some_version first old c.requires.old in let w = some_version first new c.requires.new in
     let leaves : Omits c.in_ok-before.before.items c.in_ok-kept.kept.items c.in_ok-left.left.items =
-    subst (λ (w : List Ref). Omits c.in_ok-before.before.items w c.in_ok-left.left.items) c.deref-2.ensures.value
-    (subst (λ (w : List Ref). Omits w c.deref-2.result.now c.in_ok-left.left.items) c.deref.ensures.value
-    c.in_ok-left.ensures.exact) in
+    subst (λ (w : List Ref). Omits c.in_ok-before.before.items w c.in_ok-left.left.items) c.deref.ensures.value
+    c.in_ok-left.ensures.exact in
     λ x. let l = leaves_stamps c.in_ok-before.before.items c.in_ok-kept.kept.items c.in_ok-left.left.items leaves x in
     let k = c.in_ok-kept.ensures.exact x in let b = c.in_ok-before.ensures.exact x in (
       λ h. let p = l.0 h in let q = b.0 p.0 in (
@@ -69,10 +68,7 @@ returns-clause-exact g c =
 
 pub returns-clause-places : goal.returns-clause-places
 returns-clause-places g c r h =
-    let leaves : Omits c.in_ok-before.before.items c.deref-2.result.now c.in_ok-left.left.items =
-    subst (λ (w : List Ref). Omits w c.deref-2.result.now c.in_ok-left.left.items) c.deref.ensures.value
-    c.in_ok-left.ensures.exact in
-    c.in_ok-before.ensures.places r ((leaves r).0 h).0
+    c.in_ok-before.ensures.places r ((c.in_ok-left.ensures.exact r).0 h).0
 
 pub reachable-requires-clause-places : goal.reachable-requires-clause-places
 reachable-requires-clause-places g c = (
@@ -106,12 +102,11 @@ returns-clause-grown g c =
     (grows_on g.N.Chunks.contents g.N.Chunks.places _ _ _ c.reachable.ensures.grown c.reachable-2.ensures.grown)
 
 pub without-requires-clause-before : goal.without-requires-clause-before
-without-requires-clause-before g c =
-    subst (λ (w : List Ref). Falls (stamps_of w)) (sym c.deref.ensures.value) c.in_ok-before.ensures.once
+without-requires-clause-before g c = c.in_ok-before.ensures.once
 
 pub without-requires-clause-kept : goal.without-requires-clause-kept
 without-requires-clause-kept g c =
-    subst (λ (w : List Ref). Falls (stamps_of w)) (sym c.deref-2.ensures.value) c.in_ok-kept.ensures.once
+    subst (λ (w : List Ref). Falls (stamps_of w)) (sym c.deref.ensures.value) c.in_ok-kept.ensures.once
 
 pub reachable-requires-clause-gap : goal.reachable-requires-clause-gap
 reachable-requires-clause-gap g c = c.in_ok-part.ensures.gap
