@@ -31,6 +31,10 @@ tip-grown cs old new tip v p h =
       snapshot-grown here there (stamp_of tip.commit) (stamp_of tip.snapshot) grown h.2,
     )
 
+-- a tip is one of a single version
+pub tip-same : (cs : Contents) (tip : Tip) (v w : Version) → HasTip cs tip v → HasTip cs tip w → v ≡ w
+tip-same cs tip v w h i = cc (sym h.0 ∙ i.0)
+
 -- the map after one mutation more
 pub replayed_next : (means : Meanings) (m : Entries) (xs : List Mutation) (k : ℕ) (x : Mutation) → k < length xs
     → x ≡ get_or xs k x

@@ -16,6 +16,9 @@
 //! with notes. A chunk that something is put back into is a new one: so where that was done, the mutations that were
 //! done are run a third time, alone. Where a run is asked for, notes are taken of all.
 //!
+//! Where many mutations stay pending, the last commit of a rebase tells each client's last id before it
+//! (`told_before_last`): so the next mutation needn't look at all of them.
+//!
 //! Nothing is drafted in vain: each node is a child of a later one, and the last one is the newest commit
 //! (`AddsNeeded`).
 //!
@@ -33,13 +36,15 @@ mod mutators;
 mod patches;
 mod pulls;
 mod runs;
+mod telling;
 mod tips;
 mod undoing;
 
 pub use asked::{Key, RunMap};
-pub use locals::{add_replayed, run_pending, tree_if_done};
-pub use looks::{TipLook, base_at, look_at, pending_at};
+pub use locals::{LastCommit, add_replayed, run_pending, tree_if_done};
+pub use looks::{TipLook, base_at, left_at, look_at};
 pub use mutators::{Has, Runs};
-pub use pulls::{add_patched, after_changes, pull_outcome};
+pub use pulls::{add_patched, confirmed_after, pull_outcome};
 pub use runs::{Left, OwnRun, Replayed, Run, Setting, replay_on, run_on};
+pub use telling::told_before_last;
 pub use tips::{NewLocal, Tip, add_closing, add_local, add_opening};

@@ -1,13 +1,14 @@
 //! Mutations that are replayed: the map that they leave, and a commit for each.
-ghost use Rattle.std.specs.Prelude.{Bool, ◌≡◌, ◌≢◌, ◌⊎◌, ◌<◌, ◌≤◌, [], ◌∷◌, false, length, Some, Ok, Err, IfOk, IfErr};
-ghost use Rattle.std.specs.Prelude.{IfSome, IfNone, ◌++◌, OnOk};
+ghost use Rattle.std.specs.Prelude.{Bool, ◌≡◌, ◌≢◌, ◌⊎◌, ◌<◌, ◌≤◌, List, [], ◌∷◌, true, false, length, Some, Ok, Err};
+ghost use Rattle.std.specs.Prelude.{IfOk, IfErr, IfSome, IfNone, ◌++◌, OnOk};
 ghost use mathlib.Core.List.{IsPrefix};
 ghost use Rattle.group_history.specs.Map.{Entries};
 ghost use Rattle.group_history.specs.Meaning.{Meaning, left_by, meaning_of};
 ghost use Rattle.group_history.specs.Mutating.{after_mutate, by_meaning, map_if_done};
 ghost use Rattle.group_history.specs.Refs.{stamp_of};
-ghost use Rattle.group_history.specs.Spelling.{Contents, Version, map_at, Spells};
+ghost use Rattle.group_history.specs.Spelling.{Contents, Version, map_at, Spells, tells_right};
 ghost use Rattle.group_history.specs.State.{State, view_of, replayed as map_after};
+ghost use Rattle.group_history.specs.declared.mutations.Mutation.{Mutation as Mutated};
 ghost use Rattle.group_history.specs.declared.refs.Ref.{Ref as Reference};
 ghost use Rattle.group_history.specs.declared.refusals.Refusal.TheVariants.{NoMemory, Stamps};
 ghost use Rattle.map_chunks.specs.Drafts.{AddsNeeded, IsLate};
@@ -21,8 +22,8 @@ ghost use Rattle.change_drafts.specs.Refusing.{RefusesFor, StopsAs};
 
 use crate::mutators::Runs;
 use crate::runs::{OwnRun, Replayed, Run, Setting, replay_on, run_on};
-use crate::tips::{Tip, add_over};
-use group_history::{CommitChange, Means, Mutation, Ran, Ref, Refusal};
+use crate::tips::{NewLocal, Tip, add_over};
+use group_history::{CommitChange, ConfirmedIds, Means, Mutation, Ran, Ref, Refusal};
 use map_tree::{Chunks, Draft, Tree};
 use std::alloc::AllocError;
 use transactions::NamesContents;
@@ -221,21 +222,24 @@ fn add_unread<K: NamesContents>(
     Ok(tip)
 }
 
-// A commit for each of the mutations, in order. The last has the map of the root, the others that of the basis.
+// A commit for each of the mutations, in order, and for the last one, which has the map of the root; the others have
+// that of the basis.
 fn add_all<K: NamesContents>(
     draft: &mut Draft,
     basis: Tip,
     before: &[Mutation],
-    last: &Mutation,
+    last: NewLocal,
     root: Ref,
 ) -> Result<Tip, Refusal>
     requires behind { draft.old.first ≡ length K.known }
     requires tip { (v : Version) × HasTip (with_nodes K.known draft.old.nodes) basis v × (v.state.closed ≡ false) }
     requires map { (m : Entries) × (map_at (with_nodes K.known draft.old.nodes) (stamp_of root) ≡ Some m) }
+    requires told { (v : Version) → HasTip (with_nodes K.known draft.old.nodes) basis v
+        → tells_right last.told (with_more v.state before.now) ≡ true }
     ensures tip { (v : Version) (m : Entries) → HasTip (with_nodes K.known draft.old.nodes) basis v
         → v.state.closed ≡ false → map_at (with_nodes K.known draft.old.nodes) (stamp_of root) ≡ Some m
         → IfOk result (λ after. HasTip (with_nodes K.known draft.new.nodes) after
-        (record { state = after_mutate (with_more v.state before.now) last.now; read = m })) }
+        (record { state = after_mutate (with_more v.state before.now) last.mutation; read = m })) }
     ensures needed { IfOk result (λ tip. AddsNeeded (root ∷ basis.commit ∷ []) (tip.commit ∷ []) draft.old draft.new) }
     ensures some { IfOk result (λ _. 0 < length draft.new.nodes) }
     ensures first { draft.new.first ≡ draft.old.first }
@@ -244,26 +248,38 @@ fn add_all<K: NamesContents>(
     ensures late { IfErr result (λ e. e ≡ Stamps → IsLate draft.old.first) }
 {
     let tip = add_unread::<K>(draft, basis, before)?;
-    let mutation = last.clone()?;
-    add_over(draft, tip, root, CommitChange::Local(mutation), None)
+    let NewLocal { mutation, told } = last;
+    add_over(draft, tip, root, CommitChange::Local(mutation), told)
 }
 
-/// Drafts a commit for each of the mutations, in order. The last one alone has the map that they left, which the tree
-/// is: queries read at heads, and no other of these commits is one.
+/// What the last commit of a replay has: the map that all mutations left, and each client's last id before the last of
+/// them, where it is to tell them.
+#[derive(Drop)]
+pub struct LastCommit {
+    pub tree: Tree,
+    pub told: Option<ConfirmedIds>,
+}
+
+/// Drafts a commit for each of the mutations, in order. The last one alone has the map that they left, and may tell
+/// each client's last id: queries read at heads, and no other of these commits is one.
 pub fn add_replayed<C: Chunks + Copy, K: NamesContents, M: Means>(
     setting: &Setting<'_, C, M>,
     draft: &mut Draft,
     basis: Tip,
     pending: &[Mutation],
-    tree: Tree,
+    last: LastCommit,
 ) -> Result<Tip, Refusal>
     requires known { C.contents setting.now.chunks ≡ K.known }
     requires behind { draft.old.first ≡ length K.known }
     requires tip { (s : State) × IsTip M.means (with_nodes K.known draft.old.nodes) basis s × (s.closed ≡ false)
-        × (tree_map (with_nodes K.known draft.old.nodes) tree
+        × (tree_map (with_nodes K.known draft.old.nodes) last.tree
         ≡ Some (map_after M.means (view_of M.means s) pending.now)) }
+    requires told { (s : State) (before : List Mutated) (newest : Mutated)
+        → IsTip M.means (with_nodes K.known draft.old.nodes) basis s → pending.now ≡ before ++ newest ∷ []
+        → tells_right last.told (with_more s before) ≡ true }
     ensures tip { (s : State) → IsTip M.means (with_nodes K.known draft.old.nodes) basis s → s.closed ≡ false
-        → tree_map (with_nodes K.known draft.old.nodes) tree ≡ Some (map_after M.means (view_of M.means s) pending.now)
+        → tree_map (with_nodes K.known draft.old.nodes) last.tree
+        ≡ Some (map_after M.means (view_of M.means s) pending.now)
         → IfOk result (λ after. IsTip M.means (with_nodes K.known draft.new.nodes) after (with_more s pending.now)) }
     ensures needed { IfOk result (λ tip. AddsNeeded (basis.commit ∷ []) (tip.commit ∷ []) draft.old draft.new) }
     ensures some { 0 < length draft.old.nodes → OnOk result (0 < length draft.new.nodes) }
@@ -273,9 +289,11 @@ pub fn add_replayed<C: Chunks + Copy, K: NamesContents, M: Means>(
     ensures why { IfErr result (λ e. (e ≡ NoMemory) ⊎ (e ≡ Stamps)) }
     ensures late { IfErr result (λ e. e ≡ Stamps → IsLate draft.old.first) }
 {
-    let Some((last, before)) = pending.split_last() else {
+    let Some((newest, before)) = pending.split_last() else {
         return Ok(basis);
     };
+    let LastCommit { tree, told } = last;
     let root = tree.freeze(setting.alloc, draft)?;
-    add_all::<K>(draft, basis, before, last, root)
+    let mutation = newest.clone()?;
+    add_all::<K>(draft, basis, before, NewLocal { mutation, told }, root)
 }

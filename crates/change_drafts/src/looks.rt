@@ -1,6 +1,7 @@
 //! What a head has.
 ghost use Rattle.std.specs.Prelude.{◌≡◌, ◌⊎◌, Some, IsSome, IfOk, IfErr};
 ghost use Rattle.commit_graph.specs.Chains.{IsBaseOf};
+ghost use Rattle.group_history.specs.Pulling.{left_pending};
 ghost use Rattle.group_history.specs.Refs.{stamp_of};
 ghost use Rattle.group_history.specs.Spelling.{Version, version_at};
 ghost use Rattle.group_history.specs.declared.refusals.Refusal.TheVariants.{NoMemory};
@@ -8,8 +9,8 @@ ghost use Rattle.change_drafts.specs.Chaining.{HasTip};
 ghost use Rattle.change_drafts.specs.Refusing.{StopsAs};
 
 use crate::tips::Tip;
-use commit_graph::{Base, Nodes, top_of, walk};
-use group_history::{Mutation, Ref, Refusal};
+use commit_graph::{Base, Nodes, top_of, walk_left};
+use group_history::{ConfirmedIds, Mutation, Ref, Refusal};
 use std::alloc::Global;
 use transactions::{Fixed, NamesContents};
 
@@ -57,20 +58,21 @@ pub fn base_at<N: Nodes + Copy, K: NamesContents>(nodes: N, tip: Tip) -> Result<
     Ok(base)
 }
 
-/// What is pending at a head, the oldest first.
-pub fn pending_at<N: Nodes + Copy, K: NamesContents>(
+/// What stays pending at a head where these ids are confirmed, the oldest first, each to be replayed.
+pub fn left_at<N: Nodes + Copy, K: NamesContents>(
     alloc: Global,
     nodes: N,
     head: Ref,
+    confirmed: &ConfirmedIds,
 ) -> Result<Vec<Mutation>, Refusal>
     requires known { N.contents nodes ≡ K.known }
     requires place { N.places nodes head }
     requires version { IsSome (version_at K.known (stamp_of head)) }
-    ensures pending { (v : Version) → version_at K.known (stamp_of head) ≡ Some v
-        → IfOk result (λ xs. xs.items ≡ v.state.pending) }
+    ensures left { (v : Version) → version_at K.known (stamp_of head) ≡ Some v
+        → IfOk result (λ xs. xs.items ≡ left_pending confirmed.now v.state.pending) }
     ensures err { IfErr result (λ e. (e ≡ NoMemory) ⊎ StopsAs N.stops e) }
 {
     let mut fixed = Fixed::<N, K>::new(nodes);
-    let pending = walk(alloc, &mut fixed, head)?;
-    Ok(pending)
+    let left = walk_left(alloc, &mut fixed, head, confirmed)?;
+    Ok(left)
 }

@@ -2,7 +2,7 @@
 ghost use Rattle.std.specs.Prelude.{◌≡◌, ◌≢◌, ◌⊎◌, ◌+◌, ◌<◌, ◌≤◌, [], ◌∷◌, false, length, Some, IsSome, IfOk, IfErr};
 ghost use Rattle.group_history.specs.Map.{Entries, patched};
 ghost use Rattle.group_history.specs.Pull.{AreInRange};
-ghost use Rattle.group_history.specs.Pulling.{end_at, after_pull, left_pending, overwritten};
+ghost use Rattle.group_history.specs.Pulling.{end_at, overwritten};
 ghost use Rattle.group_history.specs.Refs.{stamp_of};
 ghost use Rattle.group_history.specs.Spelling.{Contents, map_at, Spells};
 ghost use Rattle.group_history.specs.State.{State, pulled_state};
@@ -19,8 +19,8 @@ use crate::runs::Setting;
 use crate::tips::{Tip, add_snapshot};
 use commit_graph::Base;
 use group_history::{
-    ConfirmedIds, Cookie, Ended, Mutation, Mutators, PullOk, Ref, Refusal, cookie_cmp,
-    is_going_back, is_saying_nothing, keep_unconfirmed,
+    ConfirmedIds, Cookie, Ended, Mutators, PullOk, Ref, Refusal, cookie_cmp, is_going_back,
+    is_saying_nothing,
 };
 use map_tree::{Chunks, Draft, Tree};
 use std::alloc::{AllocError, Global};
@@ -109,19 +109,15 @@ pub fn add_patched<C: Chunks + Copy, K: NamesContents, M>(
     Ok(tip)
 }
 
-/// The ids that are confirmed after a pull, and the mutations that stay pending then.
-pub fn after_changes(
+/// The ids that are confirmed after a pull.
+pub fn confirmed_after(
     alloc: Global,
     base: &Base,
-    pending: &[Mutation],
     pull: &PullOk,
-) -> Result<(ConfirmedIds, Vec<Mutation>), AllocError>
-    ensures confirmed { IfOk result (λ found. found.0 ≡ overwritten base.now.confirmed pull.now.changes) }
-    ensures left { IfOk result (λ found. found.1.items
-        ≡ left_pending (overwritten base.now.confirmed pull.now.changes) pending.now) }
+) -> Result<ConfirmedIds, AllocError>
+    ensures confirmed { IfOk result (λ ids. ids ≡ overwritten base.now.confirmed pull.now.changes) }
     ensures in_range { AreInRange pull.now.changes }
 {
     let confirmed = base.confirmed.overwritten(alloc, pull.changes())?;
-    let left = keep_unconfirmed(alloc, confirmed.as_map(), pending)?;
-    Ok((confirmed, left))
+    Ok(confirmed)
 }

@@ -1,14 +1,16 @@
 //! What a change asks for first, at the commit where a call stands.
-ghost use Rattle.std.specs.Prelude.{ℕ, ◌≡◌, [], ◌∷◌, false, Ok, Some, IfOk, IfErr, IfSome, length};
+ghost use Rattle.std.specs.Prelude.{ℕ, ◌≡◌, ◌++◌, List, [], ◌∷◌, true, false, Ok, Some, IfOk, IfErr, IfSome, length};
 ghost use Rattle.group_history.specs.Cookies.{Cookie as Cookied};
 ghost use Rattle.group_history.specs.declared.changes.Change.TheVariants as changed;
+ghost use Rattle.group_history.specs.declared.mutations.Mutation.{Mutation as Mutated};
 ghost use Rattle.group_history.specs.declared.refusals.Refusal.TheVariants as refusal;
 ghost use Rattle.group_history.specs.declared.responses.Ended.TheVariants as ended;
 ghost use Rattle.group_history.specs.Map.{patched};
 ghost use Rattle.group_history.specs.Meaning.{meaning_of};
-ghost use Rattle.group_history.specs.Pull.{Pull};
-ghost use Rattle.group_history.specs.Pulling.{after_pull, end_at};
+ghost use Rattle.group_history.specs.Pull.{AreInRange, Pull};
+ghost use Rattle.group_history.specs.Pulling.{after_pull, end_at, left_pending, overwritten};
 ghost use Rattle.group_history.specs.Record.{IsAccepted};
+ghost use Rattle.group_history.specs.Spelling.{tells_right};
 ghost use Rattle.group_history.specs.State.{State, pulled_state, replayed, view_of};
 ghost use Rattle.head_word.specs.Books.{drawn};
 ghost use Rattle.map_chunks.specs.Drafts.{AreNeeded, IsLate};
@@ -28,8 +30,8 @@ use crate::proposing::{DraftSpot, check_next};
 use crate::runs::{AskedRun, BoxedRun, Chain, NextStep, Replaying};
 use crate::views::last_known;
 use change_drafts::{
-    OwnRun, RunMap, Runs, Setting, add_patched, after_changes, pending_at, pull_outcome, run_on,
-    run_pending,
+    OwnRun, RunMap, Runs, Setting, add_patched, confirmed_after, left_at, pull_outcome, run_on,
+    run_pending, told_before_last,
 };
 use chunk_slots::Slots;
 use commit_graph::{Base, LastId, SoughtId, StoreNodes};
@@ -211,11 +213,12 @@ fn run_left<'a, M: Runs, S: Slots<M>>(
 }
 
 // What is next for a pull of which these mutations stay pending: all are run by the group, or, with notes, up to the
-// first whose run is to be asked for.
+// first whose run is to be asked for. The last one's commit may tell each client's last id before it.
 fn begin_left<M: Runs, S: Slots<M>>(
     at: &At<'_, M, S>,
     chain: Chain,
     left: Vec<Mutation>,
+    told: Option<ConfirmedIds>,
 ) -> Result<NextStep, Refusal>
     requires behind { chain.draft.first ≡ length (drawn at.now.mark.log) }
     requires new { HasNew chain }
@@ -223,6 +226,9 @@ fn begin_left<M: Runs, S: Slots<M>>(
         × (s.closed ≡ false)
         × (s.pending ≡ []) }
     requires needed { AreNeeded chain.draft.first chain.draft.nodes (chain.tip.commit ∷ []) }
+    requires told { (s : State) (before : List Mutated) (newest : Mutated)
+        → IsTip M.means (with_draft (drawn at.now.mark.log) chain) chain.tip s → left.items ≡ before ++ newest ∷ []
+        → tells_right told (with_more s before) ≡ true }
     ensures step { (s : State) (last : ℕ) (ticket : Cookied) (r : Pull)
         → IsTip M.means (with_draft (drawn at.now.mark.log) chain) chain.tip s → s.closed ≡ false → s.pending ≡ []
         → IsAccepted M.means (state_at at.now) (changed.Pulled ticket r)
@@ -236,7 +242,7 @@ fn begin_left<M: Runs, S: Slots<M>>(
     let group = at.group;
     let alloc = group.shared.alloc;
     match run_left(at, &chain, &left)? {
-        Some(tree) => finish(at, chain, left, tree),
+        Some(tree) => finish(at, chain, left, tree, told),
         None => {
             let tree = Tree::at(chain.tip.root);
             let mut behind = left;
@@ -255,17 +261,26 @@ fn begin_left<M: Runs, S: Slots<M>>(
     }
 }
 
-// The pulled map after the patch, and what is next where these mutations are pending.
+// What a pull confirms, and the mutations that stay pending.
+#[derive(Drop)]
+struct Rebased {
+    confirmed: ConfirmedIds,
+    left: Vec<Mutation>,
+}
+
+// The pulled map after the patch, and what is next where these mutations stay pending.
 fn begin_replayed<M: Runs, S: Slots<M>>(
     at: &At<'_, M, S>,
     spot: DraftSpot,
     before: &Base,
-    pending: &[Mutation],
+    rebased: Rebased,
     pull: &PullOk,
 ) -> Result<NextStep, Refusal>
     requires spot { IsDraftSpot M.means at.now spot.tip spot.first }
     requires before { IsBaseOf (drawn at.now.mark.log) (state_at at.now) before.now }
-    requires pending { pending.now ≡ (state_at at.now).pending }
+    requires confirmed { rebased.confirmed ≡ overwritten before.now.confirmed pull.now.changes }
+    requires left { rebased.left.items ≡ left_pending rebased.confirmed (state_at at.now).pending }
+    requires in_range { AreInRange pull.now.changes }
     ensures step { (last : ℕ) (ticket : Cookied) → end_at (state_at at.now) ticket.text pull.now ≡ Ok ended.Applied
         → IfOk result (MayStep M.has M.means (drawn at.now.mark.log) at.now.commit (state_at at.now) last
         (changed.Pulled ticket pull.now)) }
@@ -274,10 +289,11 @@ fn begin_replayed<M: Runs, S: Slots<M>>(
         → IfOk result (IsFirstStep M.has (state_at at.now) (changed.Pulled ticket pull.now)) }
     ensures late { IfErr result (λ e. e ≡ refusal.Stamps → IsLate spot.first) }
 {
+    let Rebased { confirmed, left } = rebased;
     let group = at.group;
-    let (confirmed, left) = after_changes(group.shared.alloc, before, pending, pull)?;
+    let told = told_before_last(group.shared.alloc, &confirmed, &left)?;
     let chain = draft_patched(at, spot, before, pull, confirmed)?;
-    begin_left(at, chain, left)
+    begin_left(at, chain, left, told)
 }
 
 // The pulled map after the patch, and the first run of what stays pending.
@@ -298,12 +314,10 @@ fn begin_rebase<'a, M: Runs, S: Slots<M>>(
     ensures late { IfErr result (λ e. e ≡ refusal.Stamps → IsLate spot.first) }
 {
     let group = at.group;
-    let pending = pending_at::<StoreNodes<'a, M, S>, Brand>(
-        group.shared.alloc,
-        at.nodes(),
-        at.commit,
-    )?;
-    begin_replayed(at, spot, before, &pending, pull)
+    let alloc = group.shared.alloc;
+    let confirmed = confirmed_after(alloc, before, pull)?;
+    let left = left_at::<StoreNodes<'a, M, S>, Brand>(alloc, at.nodes(), at.commit, &confirmed)?;
+    begin_replayed(at, spot, before, Rebased { confirmed, left }, pull)
 }
 
 // What the pull asks for first, at an open group of this basis.

@@ -1,7 +1,9 @@
 //! What is next for a change once a run has ended.
-ghost use Rattle.std.specs.Prelude.{ℕ, ◌≡◌, [], Some, IsSome, IfOk, IfErr, false, length, reverse};
+ghost use Rattle.std.specs.Prelude.{ℕ, ◌≡◌, ◌++◌, List, [], ◌∷◌, Some, IsSome, IfOk, IfErr, true, false, length};
+ghost use Rattle.std.specs.Prelude.{reverse};
 ghost use Rattle.group_history.specs.Cookies.{Cookie as Cookied};
 ghost use Rattle.group_history.specs.declared.changes.Change.TheVariants as changed;
+ghost use Rattle.group_history.specs.declared.mutations.Mutation.{Mutation as Mutated};
 ghost use Rattle.group_history.specs.declared.refusals.Refusal.TheVariants as refusal;
 ghost use Rattle.group_history.specs.Map.{Entries};
 ghost use Rattle.group_history.specs.Meaning.{Meaning, meaning_of, left_by};
@@ -9,6 +11,7 @@ ghost use Rattle.group_history.specs.Pull.{Pull};
 ghost use Rattle.group_history.specs.Pulling.{after_pull};
 ghost use Rattle.group_history.specs.Ran.{RunsAs};
 ghost use Rattle.group_history.specs.Record.{IsAccepted};
+ghost use Rattle.group_history.specs.Spelling.{tells_right};
 ghost use Rattle.group_history.specs.State.{State, replayed, view_of};
 ghost use Rattle.head_word.specs.Books.{drawn};
 ghost use Rattle.map_chunks.specs.Drafts.{IsLate};
@@ -21,19 +24,19 @@ ghost use Rattle.change_tries.specs.Missing.{IsStoreOrMemory, IsStop};
 ghost use Rattle.change_tries.specs.Places.{state_at};
 ghost use Rattle.change_tries.specs.Proposing.{asked_reply, change_asked};
 ghost use Rattle.change_tries.specs.Runs.{HasNew, IsAskedRun, IsBehind, IsNewMutation, IsOn, IsRunOf, Leads, MayStep};
-ghost use Rattle.change_tries.specs.Runs.{NeedsNoRun, with_draft};
+ghost use Rattle.change_tries.specs.Runs.{NeedsNoRun, with_draft, with_more};
 
 use crate::places::At;
 use crate::proposing::{Proposal, Request, kind_at_end};
 use crate::runs::{AskedRun, BoxedRun, Chain, EndedRun, NextStep, Replaying};
 use crate::views::told_if;
 use change_drafts::{
-    Left, NewLocal, Replayed, Run, RunMap, Runs, Setting, add_local, add_replayed, replay_on,
-    tree_if_done,
+    LastCommit, Left, NewLocal, Replayed, Run, RunMap, Runs, Setting, add_local, add_replayed,
+    replay_on, tree_if_done,
 };
 use chunk_slots::Slots;
 use commit_graph::StoreNodes;
-use group_history::{Change, Means, Mutation, Ran, Refusal};
+use group_history::{Change, ConfirmedIds, Means, Mutation, Ran, Refusal};
 use map_tree::Tree;
 use reader_claims::Kind;
 use std::marker::Brand;
@@ -74,18 +77,23 @@ pub(crate) fn end_new<M: Runs, S: Slots<M>>(
     }))
 }
 
-/// The end of a pull whose mutations that stay pending were all run, and left this map: it is drafted whole.
+/// The end of a pull whose mutations that stay pending were all run, and left this map: it is drafted whole. The last
+/// one's commit may tell each client's last id before it.
 pub(crate) fn finish<'a, M: Runs, S: Slots<M>>(
     at: &At<'a, M, S>,
     chain: Chain,
     ran: Vec<Mutation>,
     tree: Tree,
+    told: Option<ConfirmedIds>,
 ) -> Result<NextStep, Refusal>
     requires behind { chain.draft.first ≡ length (drawn at.now.mark.log) }
     requires tip { (s : State) × IsTip M.means (with_draft (drawn at.now.mark.log) chain) chain.tip s
         × (s.closed ≡ false)
         × (tree_map (with_draft (drawn at.now.mark.log) chain) tree
         ≡ Some (replayed M.means (view_of M.means s) ran.items)) }
+    requires told { (s : State) (before : List Mutated) (newest : Mutated)
+        → IsTip M.means (with_draft (drawn at.now.mark.log) chain) chain.tip s → ran.items ≡ before ++ newest ∷ []
+        → tells_right told (with_more s before) ≡ true }
     ensures step { (last : ℕ) (ticket : Cookied) (r : Pull) (map : Entries)
         → IsAccepted M.means (state_at at.now) (changed.Pulled ticket r)
         → Leads M.means (drawn at.now.mark.log) (after_pull (state_at at.now) r) chain ran.items [] map → HasNew chain
@@ -104,8 +112,9 @@ pub(crate) fn finish<'a, M: Runs, S: Slots<M>>(
         chunks: at.nodes(),
         mutators: &group.mutators,
     };
+    let last = LastCommit { tree, told };
     let after = add_replayed::<StoreNodes<'a, M, S>, Brand, M>(
-        &setting, &mut draft, tip, &ran, tree,
+        &setting, &mut draft, tip, &ran, last,
     )?;
     Ok(NextStep::Move(Proposal {
         base: at.commit,
@@ -232,7 +241,7 @@ pub(crate) fn go_on<M: Runs, S: Slots<M>>(
         behind,
     } = now;
     drop(behind);
-    finish(at, chain, ran, tree)
+    finish(at, chain, ran, tree, None)
 }
 
 // The end of a run of the caller's for a new mutation.

@@ -6,10 +6,13 @@ ghost use Rattle.group_history.specs.Refs.{stamp_of};
 ghost use Rattle.group_history.specs.Spelling.{map_at, version_at};
 
 use change_drafts::{
-    Setting, add_opening, add_patched, add_replayed, after_changes, base_at, look_at, run_pending,
+    LastCommit, Setting, add_opening, add_patched, add_replayed, base_at, confirmed_after, look_at,
+    run_pending, told_before_last,
 };
-use commit_graph::{CommitState, LentCommit, Nodes, VecNodes, cookie_of, dropped, state_of};
-use group_history::{Json, Mutation, PullOk, Ref, Refusal, Response, Stop, Text};
+use commit_graph::{
+    CommitState, LentCommit, Nodes, VecNodes, cookie_of, dropped, last_ids_at, state_of,
+};
+use group_history::{Json, Mutation, PullOk, Ref, Refusal, Response, Stop, Text, keep_unconfirmed};
 use map_tree::{Chunks, Lent, Shelf};
 use pull_patch::read_response;
 use script_mutators::ScriptMutators;
@@ -103,8 +106,10 @@ pub(super) fn add_rebased(
         chunks: shelf,
         mutators: &ScriptMutators,
     };
-    let (confirmed, kept) = after_changes(alloc, &base, pending, pull)?;
+    let confirmed = confirmed_after(alloc, &base, pull)?;
+    let kept = keep_unconfirmed(alloc, confirmed.as_map(), pending)?;
     let left = kept.as_slice();
+    let told = told_before_last(alloc, &confirmed, left)?;
     let basis = add_patched::<Shelf<'_>, Brand, ScriptMutators>(
         &setting,
         &mut draft,
@@ -118,8 +123,9 @@ pub(super) fn add_rebased(
     let Some(tree) = found else {
         return Err(Refusal::NoMutator);
     };
+    let last = LastCommit { tree, told };
     let tip = add_replayed::<Shelf<'_>, Brand, ScriptMutators>(
-        &setting, &mut draft, basis, left, tree,
+        &setting, &mut draft, basis, left, last,
     )?;
     nodes.append(draft)?;
     Ok(tip.commit)
@@ -211,6 +217,32 @@ fn looks_for_cookie(alloc: Global) -> Result<u64, Refusal> {
 #[test]
 fn a_cookie_is_two_looks_away(rt: HostRuntime) -> Result<(), Refusal> {
     assert_eq!(rt; looks_for_cookie(rt.alloc())?, 2);
+    Ok(())
+}
+
+/// How many nodes are shown until each client's last id is known, where so many mutations of `a` stay pending, and the
+/// id of `a`.
+fn looks_for_ids(alloc: Global, count: u64) -> Result<(u64, u64), Refusal> {
+    let mut pending = Vec::new(alloc);
+    for before in 0..count {
+        let again = mutation(alloc, before + 1, "set", r#"["k01",0]"#)?;
+        pending.push(again)?;
+    }
+    let (nodes, head) = with_keys(alloc, &pending, 1)?;
+    let mut counted = CountedNodes {
+        shelf: nodes.shelf(),
+        shown: 0,
+    };
+    let ids = last_ids_at(alloc, &mut counted, head)?;
+    let client = Text::new(alloc, "a")?;
+    Ok((counted.shown, ids.of(&client)))
+}
+
+#[test]
+fn the_last_of_many_replayed_commits_tells_ids(rt: HostRuntime) -> Result<(), Refusal> {
+    // Each commit and the snapshot; the newest one.
+    assert_eq!(rt; looks_for_ids(rt.alloc(), 32)?, (33, 32));
+    assert_eq!(rt; looks_for_ids(rt.alloc(), 33)?, (1, 33));
     Ok(())
 }
 

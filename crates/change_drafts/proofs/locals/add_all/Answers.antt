@@ -1,14 +1,10 @@
-use Rattle.std.proofs.Common.{◌≡◌, rules, IfOk, Some, refl, sym, ◌∙◌, subst}
-use Rattle.group_history.specs.declared.mutations.Mutation.{Mutation}
-use Rattle.group_history.specs.Mutating.{after_mutate}
+use Rattle.std.proofs.Common.{◌≡◌, Some, sym, ◌∙◌}
 use Rattle.group_history.specs.Refs.{stamp_of}
 use Rattle.group_history.specs.Spelling.{Version, map_at}
 use Rattle.map_chunks.specs.Places.{with_nodes}
 use Rattle.map_nodes.proofs.FreezeLemmas.{nodes-grown}
 use Rattle.commit_graph.proofs.Spelled.{map-grown}
-use Rattle.change_drafts.specs.Chaining.{HasTip}
 use Rattle.change_drafts.specs.Pending.{with_more}
-use Rattle.change_drafts.specs.declared.tips.Tip.{Tip}
 use Rattle.change_drafts.proofs.BelowLemmas.{root-behind}
 use Rattle.change_drafts.proofs.NeededLemmas.{needed_last}
 use Rattle.map_chunks.proofs.AnswerLemmas.{if_ok_so}
@@ -35,12 +31,8 @@ returns-clause-tip g c v m h is_open is =
     map-grown (with_nodes known old.nodes) (with_nodes known new.nodes) (stamp_of c.args.root) m
     (nodes-grown known old.nodes new.nodes c.add_unread.ensures.grown) is in
     let behind = sym (c.add_unread.ensures.first ∙ c.requires.behind) in
-    let same : c.in_ok-mutation.mutation ≡ c.args.last.now = search rules in
     let now : Version = record { state = with_more v.state before; read = v.read } in
-    subst (λ (x : Mutation). IfOk c.add_over.result (λ (after : Tip).
-    HasTip (with_nodes known c.add_over.new.draft.nodes) after
-    (record { state = after_mutate (with_more v.state before) x; read = m }))) same
-    (c.add_over.ensures.spelled known now m behind at.0 at.2 is_open refl map)
+    c.add_over.ensures.spelled known now m behind at.0 at.2 is_open (c.requires.told v h) map
 
 pub returns-clause-needed : goal.returns-clause-needed
 returns-clause-needed g c = if_ok_so c.add_over.result c.add_over.ensures.needed (λ at p.

@@ -28,6 +28,12 @@ add_replayed-requires-clause-tip g c =
       t.3 ∙ ap (λ (ys : List Mutation). Some (replayed means (view_of means t.0) ys)) (sym c.deref.ensures.value),
     )
 
+pub add_replayed-requires-clause-told : goal.add_replayed-requires-clause-told
+add_replayed-requires-clause-told g c s before newest tip is =
+    let chain = c.args.chain in
+    c.requires.told s before newest (subst (λ (w : Contents). IsTip g.M.Means.means
+    (with_nodes w chain.draft.nodes) chain.tip s) c.nodes.ensures.nodes tip) (sym c.deref.ensures.value ∙ is)
+
 pub returns-clause-step : goal.returns-clause-step
 returns-clause-step g c last ticket r map accepted l new mapped =
     let means = g.M.Means.means in let at = c.args.at.now in let cs = drawn at.mark.log in let s = state_at at in

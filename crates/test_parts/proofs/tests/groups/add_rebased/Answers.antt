@@ -5,8 +5,9 @@ use Rattle.group_history.specs.declared.refs.Ref.{Ref}
 use Rattle.group_history.specs.Map.{Entries, patched}
 use Rattle.group_history.specs.Naming.{content_of}
 use Rattle.group_history.specs.Refs.{stamp_of}
-use Rattle.group_history.specs.Spelling.{Contents, map_at, version_at}
-use Rattle.group_history.specs.State.{pulled_state, replayed}
+use Rattle.group_history.specs.Spelling.{Contents, Version, map_at, version_at, version_of}
+use Rattle.group_history.specs.State.{State, pulled_state, replayed}
+use Rattle.change_drafts.proofs.ReplayLemmas.{tip-same}
 use Rattle.map_chunks.proofs.Shelves.{some_of}
 use Rattle.map_chunks.specs.Drafts.{Drafted}
 use Rattle.map_chunks.specs.Places.{with_nodes}
@@ -70,6 +71,23 @@ add_replayed-requires-clause-tip c =
           ≡ Some (replayed script_means m c.as_slice-left.result.now))) c.in-Some.is
           (c.in_ok-found.ensures.left m basis.1),
     )
+
+pub add_replayed-requires-clause-told : goal.add_replayed-requires-clause-told
+add_replayed-requires-clause-told c s before newest tip is =
+    let v = some_of (version_at (map content_of c.args.nodes.now) (stamp_of c.args.head)) c.requires in
+    let old = c.in_ok-look.ensures.tip v.0
+    (ap (λ (ns : List (Node Ref)). version_at (map content_of ns) (stamp_of c.args.head))
+    c.shelf-shelf.ensures ∙ v.1) in
+    let contents = map content_of c.shelf-shelf.result.nodes.now in
+    let there = found contents c.draft-draft.result _ (stamp_of c.in_ok-base.base.pulled) v.0.state.pulled
+    c.draft-draft.ensures (c.in_ok-base.ensures.base v.0 old).2 in
+    let m = patched v.0.state.pulled c.args.pull.now.patch in
+    let start = pulled_state m c.args.pull.now.cookie c.in_ok-confirmed.confirmed in
+    let same : s ≡ start = ap (λ (w : Version). w.state)
+    (tip-same (with_nodes contents c.add_patched.new.draft.nodes) c.in_ok-basis.basis (version_of script_means s)
+    (record { state = start; read = m }) tip (c.in_ok-basis.ensures.tip v.0.state.pulled there)) in
+    c.in_ok-told.ensures.told s before newest (ap (λ (w : State). w.confirmed) same)
+    (ap (λ (w : State). w.pending) same) is
 
 pub returns-clause-old : goal.returns-clause-old
 returns-clause-old c = stays c.args.nodes.now c.add_replayed.new.draft.nodes c.append.new.self
