@@ -5,9 +5,17 @@ pub const COUNTERS: u64 = 1_000;
 
 pub const CLIENT: &str = "00000000-0000-4000-8000-000000000000";
 
-/// The ID of the client with this number, where `CLIENT` is 0.
+/// What spreads the numbers of clients over the bits of an ID.
+const SPREAD: u128 = 0x9e37_79b9_7f4a_7c15_f39c_c060_5ced_c835;
+
+/// The bits that each ID of the version 4 has alike, and what they are.
+const ALIKE: u128 = 0xf000_c000_0000_0000_0000;
+const VERSION_4: u128 = 0x4000_8000_0000_0000_0000;
+
+/// The ID of the client with this number, where `CLIENT` is 0. They differ from their first digits on, as random ones do.
 pub fn client_id(number: u64) -> String {
-    format!("00000000-0000-4000-8000-{number:012x}")
+    let id = format!("{:032x}", (u128::from(number).wrapping_mul(SPREAD) & !ALIKE) | VERSION_4);
+    [&id[..8], &id[8..12], &id[12..16], &id[16..20], &id[20..]].join("-")
 }
 
 pub fn item(number: u64) -> String {
