@@ -1,7 +1,7 @@
 """A client in Python, live over a pipe: `python3 pipe.py PROGRAM`, the program that `docs/SERVE.md` is about.
 
-A line is asked, and its answer is there before the next one is. The server is played by this file: it takes the body of a
-push and answers a pull.
+A line is asked, and its answer is there before the next one is. The server is played by this file: it takes the body
+of a push and answers a pull.
 """
 import json
 import subprocess
@@ -46,7 +46,8 @@ def main(program):
     push = json.loads(replicache.call("anna", "push").removeprefix("push "))
     asked = json.loads(replicache.call("anna", "begin t").removeprefix("pull "))
     done = {m["clientID"]: m["id"] for m in push["mutations"]}
-    patch = [{"op": "put", "key": "todo/" + m["args"]["id"], "value": m["args"]["text"] + "!"} for m in push["mutations"]]
+    todos = [m["args"] for m in push["mutations"]]
+    patch = [{"op": "put", "key": "todo/" + todo["id"], "value": todo["text"] + "!"} for todo in todos]
     body = {"cookie": (asked["cookie"] or 0) + 1, "lastMutationIDChanges": done, "patch": patch}
     assert replicache.call("anna", f"end t {json.dumps(body)}") == "applied"
     assert replicache.call("anna", "poll list") == 'new [["todo/x","milk!"]]'

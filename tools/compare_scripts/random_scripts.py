@@ -193,7 +193,8 @@ class Scripts:
         return mutator, f" {args} " if self.chance(0.1) else args
 
     def query(self, name: str) -> list[str]:
-        bare = ("empty", "closed", "pending", "cookie", "push", "refresh", f"push {self.pick((0, 1, '02', 9, 2**64 - 1))}")
+        skipped = self.pick((0, 1, "02", 9, 2**64 - 1))
+        bare = ("empty", "closed", "pending", "cookie", "push", "refresh", f"push {skipped}")
         return [
             self.pick(
                 (
@@ -325,7 +326,8 @@ class Scripts:
     def spoilt(self, script: bytes) -> bytes:
         lines = script.split(b"\n")
         at = self.random.randrange(len(lines))
-        kinds = (self.with_odd_line, self.with_clients, self.with_other_words, self.with_other_byte, self.with_other_order)
+        words = (self.with_odd_line, self.with_clients, self.with_other_words)
+        kinds = (*words, self.with_other_byte, self.with_other_order)
         self.pick(kinds)(lines, at)
         return b"\n".join(lines)
 

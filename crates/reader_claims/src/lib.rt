@@ -1,5 +1,5 @@
-//! Which slot (cell of an arena) is free: epoch-based reclamation, with the states of the slots beside the epoch and the
-//! pins (guards).
+//! Which slot (cell of an arena) is free: epoch-based reclamation, with the states of the slots beside the epoch and
+//! the pins (guards).
 //!
 //! The epoch is a number that never falls, at most 2^60. The pin of a seat (a handle at the collector) is absent or an
 //! epoch. A slot is Free, Taken by a seat, Live, or Retired at an epoch, which defers its free. `claims` tells the

@@ -1,5 +1,5 @@
-//! What a scan that is made again has taken so far: rows, of the chunks that were met before those of then, their spans,
-//! and the room that is left.
+//! What a scan that is made again has taken so far: rows, of the chunks that were met before those of then, their
+//! spans, and the room that is left.
 ghost use Rattle.std.specs.Prelude.{◌≡◌, ◌⊎◌, ◌-◌, ◌++◌, [], length, take, drop, Some, None, true};
 ghost use Rattle.std.specs.Prelude.{IfNone, IfOk, IfSome, OnOk};
 ghost use Rattle.std.specs.List.{Contains};
