@@ -10,6 +10,7 @@ use Rattle.group_history.specs.declared.changes.Change.TheVariants.{Mutated, Pul
 use Rattle.group_history.specs.declared.mutations.Mutation.{Mutation}
 use Rattle.group_history.specs.declared.mutators.Ran.{Ran}
 use Rattle.group_history.specs.declared.mutators.Ran.TheVariants as ran
+use Rattle.group_history.specs.declared.refs.Ref.{Ref}
 use Rattle.group_history.specs.declared.refusals.Refusal.{Refusal}
 use Rattle.group_history.specs.declared.refusals.Refusal.TheVariants as refusal
 use Rattle.group_history.specs.declared.responses.Response.TheVariants as response
@@ -38,7 +39,8 @@ use Rattle.change_drafts.proofs.RunLemmas.{Refuses-is, reply-refused}
 use Rattle.change_tries.specs.Proposing.{asked_reply, change_asked, kind_left}
 use Rattle.change_tries.proofs.Drafting.{refused_for, told_unproposed}
 use Rattle.change_tries.proofs.Making.{reply_next}
-use Rattle.change_tries.specs.Runs.{HasMap, IsBehind, IsFirstStep, IsNext, IsOn, IsOnLeft, IsRunOf, Leads, NeedsNoRun}
+use Rattle.change_tries.specs.Runs.{AsksNew, HasMap, IsAskedRun, IsBehind, IsFirstStep, IsFresh, IsNewMutation}
+use Rattle.change_tries.specs.Runs.{IsNewRun, IsNext, IsOn, IsOnLeft, IsRunOf, Leads, MayStep, NeedsNoRun}
 use Rattle.change_tries.specs.Runs.{with_draft, map_by, run_map, run_start}
 use Rattle.change_tries.specs.declared.runs.Chain.{Chain}
 use Rattle.change_tries.specs.declared.runs.NextStep.{NextStep}
@@ -117,6 +119,47 @@ begun contents map tree m same none is =
       ap map_or here,
       ap (λ notes. undone notes (map_now contents map)) none ∙ ap map_or here,
     )
+
+-- the run of a new mutation whose mutator the group lacks
+pub asked_new : (has : Bytes → Bool) (means : Meanings) (cs : Contents) (s : State) (last : ℕ) (x : Mutation)
+    (chain : Chain) (tree : Tree) (run : AskedRun) → IsNewMutation means cs s last x chain → has x.name ≡ false
+    → tree_map (with_draft cs chain) tree ≡ Some (view_of means s) → IsNewRun chain x tree run
+    → IsAskedRun means cs s last (Mutated x) run × IsFresh has cs run
+asked_new has means cs s last x chain tree run new lacks here is =
+    let m = view_of means s in let rest = run.behind.items in
+    let n : IsNewMutation means cs s last x run.chain =
+    subst (λ (w : Chain). IsNewMutation means cs s last x w) (sym is.0) new in
+    let b = begun (with_draft cs run.chain) run.map tree m is.3 is.4
+    (ap (λ (w : Chain). tree_map (with_draft cs w) tree) is.0 ∙ here) in (
+      record {
+        leads = record {
+          first = n.first;
+          needed = n.needed;
+          basis = s;
+          tip = n.tip;
+          opened = n.next.opened;
+          mapped = b.2 ∙ ap (replayed means m) (sym is.1);
+          whole = ap (λ (ys : List Mutation). with_more s (ys ++ run.mutation ∷ reverse rest)) is.1
+              ∙ ap (λ (y : Mutation). with_more s (y ∷ reverse rest)) is.2
+              ∙ ap (λ (ys : List Mutation). with_more s (x ∷ reverse ys)) is.5;
+          bare = λ none. absurd (cc (ap (λ (ys : List Mutation). ys ++ run.mutation ∷ reverse rest) (sym is.1)
+              ∙ none));
+        };
+        map = b.0;
+        judged = (is.2, is.5, n.next, n.tip, b.2);
+      },
+      (b.1 ∙ sym b.2, ap (λ (y : Mutation). has y.name) is.2 ∙ lacks),
+    )
+
+-- and that it is asked for is what is next
+pub step_new : (has : Bytes → Bool) (means : Meanings) (cs : Contents) (base : Ref) (s : State) (last : ℕ)
+    (x : Mutation) (chain : Chain) (tree : Tree) (next : NextStep) → IsNewMutation means cs s last x chain
+    → has x.name ≡ false → tree_map (with_draft cs chain) tree ≡ Some (view_of means s) → AsksNew chain x tree next
+    → MayStep has means cs base s last (Mutated x) next
+step_new has means cs base s last x chain tree (step.Run run) new lacks here asks =
+    asked_new has means cs s last x chain tree run new lacks here asks
+step_new has means cs base s last x chain tree (step.Move p) new lacks here asks = absurd asks
+step_new has means cs base s last x chain tree step.Same new lacks here asks = absurd asks
 
 -- and then nothing is proposed
 pub want_unproposed : {X : Type 0} (reused : Type 0) (change : Result X Refusal → Option Change)

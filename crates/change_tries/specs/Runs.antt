@@ -20,6 +20,7 @@ use Rattle.group_history.specs.State.{State, last_id, replayed, view_of}
 use Rattle.map_chunks.specs.Drafts.{AreNeeded}
 use Rattle.map_chunks.specs.Places.{with_nodes}
 use Rattle.map_tree.specs.Trees.{tree_map}
+use Rattle.map_tree.specs.declared.tree.Tree.{Tree}
 use Rattle.change_drafts.specs.Chaining.{IsTip}
 use Rattle.change_drafts.specs.Running.{map_now, map_then}
 pub use Rattle.change_drafts.specs.Pending.{with_more}
@@ -114,6 +115,17 @@ abbrev pub MayStep : (Bytes → Bool) → Meanings → Contents → Ref → Stat
 MayStep has means cs base s last change (step.Run run) = IsAskedRun means cs s last change run × IsFresh has cs run
 MayStep has means cs base s last change (step.Move p) = MayPropose means cs base s last change (Some p)
 MayStep has means cs base s last change step.Same = MayPropose means cs base s last change None
+
+-- The run has these parts: none was run before it, none is left behind it, and nothing was written yet.
+abbrev pub IsNewRun : Chain → Mutation → Tree → AskedRun → Type 0
+IsNewRun chain x tree run = (run.chain ≡ chain) × (run.ran.items ≡ []) × (run.mutation ≡ x) × (run.map.tree ≡ tree)
+    × (run.map.before.items ≡ []) × (run.behind.items ≡ [])
+
+-- such a run is asked for
+abbrev pub AsksNew : Chain → Mutation → Tree → NextStep → Type 0
+AsksNew chain x tree (step.Run run) = IsNewRun chain x tree run
+AsksNew chain x tree (step.Move p) = ⊥
+AsksNew chain x tree step.Same = ⊥
 
 -- what a run leaves that ended so: the map as it is, where it was done, and else the one where it began
 abbrev pub map_by : Ran → Entries → Entries → Entries

@@ -22,7 +22,8 @@ ghost use Rattle.change_drafts.specs.Running.{MayRun};
 ghost use Rattle.change_tries.specs.Missing.{IsStoreOrMemory, IsStoreRefusal, IsStop};
 ghost use Rattle.change_tries.specs.Places.{state_at};
 ghost use Rattle.change_tries.specs.Proposing.{IsDraftSpot, MayAsk, StaysFound, asked_reply, change_asked};
-ghost use Rattle.change_tries.specs.Runs.{HasNew, IsFirstStep, IsNewMutation, IsOnLeft, MayStep, with_draft, with_more};
+ghost use Rattle.change_tries.specs.Runs.{AsksNew, HasNew, IsFirstStep, IsNewMutation, IsOnLeft, MayStep};
+ghost use Rattle.change_tries.specs.Runs.{with_draft, with_more};
 
 use crate::ending::{end_new, finish, go_on};
 use crate::places::At;
@@ -38,6 +39,7 @@ use commit_graph::{Base, LastId, SoughtId, StoreNodes};
 use group_history::{Change, ConfirmedIds, Cookie, Ended, Means, Mutation, PullOk, Ref, Refusal};
 use map_chunks::Draft;
 use map_tree::Tree;
+use std::alloc::{AllocError, Global};
 use std::marker::Brand;
 
 /// Where a client's last id was found, and whether the way there was long.
@@ -96,6 +98,26 @@ fn run_new<'a, M: Runs, S: Slots<M>>(
     run_on::<StoreNodes<'a, M, S>, Brand, M>(&setting, &chain.draft, tree, mutation)
 }
 
+// The run of a new mutation on a map, which is asked for.
+#[inline(never)]
+fn asked_new(
+    alloc: Global,
+    chain: Chain,
+    mutation: Mutation,
+    tree: Tree,
+) -> Result<NextStep, AllocError>
+    ensures step { IfOk result (AsksNew chain mutation tree) }
+{
+    let run = AskedRun {
+        chain,
+        ran: Vec::new(alloc),
+        mutation,
+        map: RunMap::new(alloc, tree),
+        behind: Vec::new(alloc),
+    };
+    Ok(NextStep::Run(BoxedRun::new(alloc, run)?))
+}
+
 // A mutation that is its client's next one: it is run by the group, or its run is asked for.
 fn begin_next<M: Runs, S: Slots<M>>(
     at: &At<'_, M, S>,
@@ -114,16 +136,7 @@ fn begin_next<M: Runs, S: Slots<M>>(
     let alloc = group.shared.alloc;
     match run_new(at, &chain, &mutation)? {
         OwnRun::Ran(run) => end_new(at, chain, mutation, last, run),
-        OwnRun::Lacks(tree) => {
-            let run = AskedRun {
-                chain,
-                ran: Vec::new(alloc),
-                mutation,
-                map: RunMap::new(alloc, tree),
-                behind: Vec::new(alloc),
-            };
-            Ok(NextStep::Run(BoxedRun::new(alloc, run)?))
-        }
+        OwnRun::Lacks(tree) => Ok(asked_new(alloc, chain, mutation, tree)?),
     }
 }
 

@@ -169,9 +169,9 @@ impl OwnRoot {
             Reached::Same => Ok(Updated::kept(Ran::Done)),
             Reached::Refused(code) => Ok(Updated::kept(Ran::Refused(code))),
             Reached::Laid => Ok(Updated::made(OwnRoot::of_trail(Trail::of(laying)))),
-            Reached::Grown(node, half) => {
+            Reached::Grown(node, upper) => {
                 prove!(at.stamp() < STAMPS);
-                let root = topped(down.alloc, node, half)?;
+                let root = topped(down.alloc, node, upper.into_half())?;
                 Ok(Updated::made(OwnRoot::new(root)))
             }
         }

@@ -160,6 +160,11 @@ pub record IsGrownOver (copies depth : ℕ) (kids : List (Bytes × Ref)) (key : 
       (values_of (entries_over kids place lower kid half))
   pub whole : half ≡ None → made ≡ None
 
+-- a way ends in such a chunk, with its upper half
+abbrev pub IsGrownUp : ℕ → List (Bytes × Ref) → Bytes → ℕ → Seen → Option Half → Reached → Type 0
+IsGrownUp copies kids key place child half r = (n : Kid) × (made : Option Half) × (r ≡ Grown n made)
+    × IsGrownOver copies (child.depth + 1) kids key place child half n.value made
+
 -- where own chunks were made below, the topmost fits in the place of the child
 abbrev pub CanStep : ℕ → List (Bytes × Ref) → Bytes → ℕ → Reached → Type 0
 CanStep copies kids key place Same = Unit {0}
@@ -173,5 +178,4 @@ IsStepped copies kids key place Same r old new = r ≡ Same
 IsStepped copies kids key place (Refused code) r old new = r ≡ Refused code
 IsStepped copies kids key place Laid r old new = (r ≡ Laid) × (new.end ≡ old.end)
     × ((s : Step) × IsCopiedStep kids key s × (s.place ≡ place) × (new.steps.items ≡ old.steps.items ++ s ∷ []))
-IsStepped copies kids key place (Grown child half) r old new = (n : Kid) × (made : Option Half) × (r ≡ Grown n made)
-    × IsGrownOver copies (child.value.depth + 1) kids key place child.value half n.value made
+IsStepped copies kids key place (Grown child half) r old new = IsGrownUp copies kids key place child.value half r

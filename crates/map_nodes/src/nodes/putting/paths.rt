@@ -266,7 +266,8 @@ fn taken_up(
     ensures told { IfErr result (IsUnputTold reached) }
 {
     match reached {
-        Reached::Grown(node, half) => {
+        Reached::Grown(node, upper) => {
+            let half = upper.into_half();
             let ready = PutBuffers::of_child(keys, put, place, half.is_some())?;
             Ok((ready, node, half))
         }

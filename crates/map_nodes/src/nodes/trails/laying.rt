@@ -23,7 +23,8 @@ ghost use Rattle.map_chunks.specs.Seeking.{chunk_depth};
 ghost use Rattle.map_chunks.specs.Shown.{chunk_rows, rows_or, IsTree};
 ghost use Rattle.map_nodes.specs.Changes.{CanMake, Makes};
 ghost use Rattle.map_nodes.specs.Inside.Halves.{lowered, IsLower};
-ghost use Rattle.map_nodes.specs.Inside.Laying.{IsPutEnd, IsCopiedStep, IsLeafEnd, IsChunkEnd, CanStep, IsStepped};
+ghost use Rattle.map_nodes.specs.Inside.Laying.{IsPutEnd, IsCopiedStep, IsLeafEnd, IsChunkEnd, CanGrowOver, CanStep};
+ghost use Rattle.map_nodes.specs.Inside.Laying.{IsGrownUp, IsStepped};
 ghost use Rattle.map_nodes.specs.Trails.{leaf_seen, trail_seen, IsTrailEnd, IsTrail};
 ghost use Rattle.map_nodes.specs.declared.nodes.trails.End.{End as Ends};
 
@@ -39,6 +40,7 @@ use map_chunks::keys::NodeKeys;
 use map_chunks::search::{place_for, search_for};
 use map_chunks::{Chunks, ShowsChunk};
 use std::alloc::{AllocError, Global};
+use std::marker::Model;
 use std::sync::Arc;
 
 /// New chunks on the way up, where there are any: a leaf, and those above it, the lowest first. They are written where
@@ -90,6 +92,48 @@ impl End {
     }
 }
 
+/// The upper half of a chunk that was split, if it was, in memory of its own: each level hands up what a way down ends
+/// in, so that is small.
+#[derive(Drop)]
+pub(crate) struct Upper {
+    inner: Option<Box<Half>>,
+}
+
+impl Model for Upper {
+    ghost use Rattle.std.specs.Coded.{codes};
+    ghost use Rattle.std.specs.Prelude.{Option, option_map};
+    ghost use Rattle.map_nodes.specs.contracts.nodes.putting.Half as half;
+    ghost use Rattle.map_nodes.specs.declared.nodes.putting.Half.{Half as Halves};
+
+    ghost Value = { Option Halves };
+
+    ghost coded = { Prim.hlevel (codes, half.the_row.coded) };
+
+    ghost view = { λ upper. option_map (λ boxed. boxed.value) upper.inner };
+}
+
+impl Upper {
+    fn new(alloc: Global, half: Option<Half>) -> Result<Upper, AllocError>
+        ensures { IfOk result (λ upper. upper ≡ half) }
+    {
+        let Some(half) = half else {
+            return Ok(Upper { inner: None });
+        };
+        let inner = Box::new(alloc, half)?;
+        Ok(Upper { inner: Some(inner) })
+    }
+
+    /// The upper half, by value.
+    pub(crate) fn into_half(self) -> Option<Half>
+        ensures { result ≡ self }
+    {
+        match self.inner {
+            Some(half) => Some(Box::into_inner(half)),
+            None => None,
+        }
+    }
+}
+
 /// What a way down to a key ends in.
 #[derive(Drop)]
 pub(crate) enum Reached {
@@ -100,7 +144,7 @@ pub(crate) enum Reached {
     /// The value is put in a trail.
     Laid,
     /// The value is put in own chunks: the topmost one, and its upper half where that was split.
-    Grown(Box<OwnNode>, Option<Half>),
+    Grown(Box<OwnNode>, Upper),
 }
 
 // What becomes of a leaf that has another value at a place.
@@ -127,7 +171,8 @@ fn put_found(
         laying.begin(down.alloc, down.copies, end)?;
         return Ok(Reached::Laid);
     }
-    Ok(Reached::Grown(boxed(down.alloc, end.into_node())?, None))
+    let upper = Upper::new(down.alloc, None)?;
+    Ok(Reached::Grown(boxed(down.alloc, end.into_node())?, upper))
 }
 
 // What becomes of a leaf that has one row more, before the one at a place.
@@ -152,7 +197,8 @@ fn put_absent(
         return Ok(Reached::Laid);
     }
     let node = OwnNode::of_rows(keys, values);
-    Ok(Reached::Grown(boxed(down.alloc, node)?, half))
+    let upper = Upper::new(down.alloc, half)?;
+    Ok(Reached::Grown(boxed(down.alloc, node)?, upper))
 }
 
 // What becomes of a leaf in which a key was found at a place, or has its place before one.
@@ -249,6 +295,24 @@ fn child_at(inner: &Inner<Ref>, place: usize) -> Ref
     child
 }
 
+// An inner chunk above an own child, as what a way ends in.
+#[inline(never)]
+fn grown_up(
+    inner: &Inner<Ref>,
+    place: usize,
+    down: &Down<'_>,
+    child: Box<OwnNode>,
+    upper: Upper,
+) -> Result<Reached, AllocError>
+    requires place { IsPlace down.now.key.now (keys_of inner.now) place }
+    requires fits { CanGrowOver down.now.copies inner.now down.now.key.now place child.value upper }
+    ensures { IfOk result (IsGrownUp down.now.copies inner.now down.now.key.now place child.value upper) }
+{
+    let (node, half) = grown_over(inner, place, down, child, upper.into_half())?;
+    let upper = Upper::new(down.alloc, half)?;
+    Ok(Reached::Grown(node, upper))
+}
+
 // What the way through an inner chunk ends in, where the way below the child at a place ends so.
 #[inline(always)]
 fn step_up(
@@ -257,11 +321,12 @@ fn step_up(
     down: &Down<'_>,
     below: Reached,
     laying: &mut Laying,
-) -> Result<Reached, AllocError>
+) -> Result<Reached, Stop>
     requires place { IsPlace down.now.key.now (keys_of inner.now) place }
     requires fits { CanStep down.now.copies inner.now down.now.key.now place below }
-    ensures { IfOk result (λ r. IsStepped down.now.copies inner.now down.now.key.now place below r laying.old
+    ensures stepped { IfOk result (λ r. IsStepped down.now.copies inner.now down.now.key.now place below r laying.old
         laying.new) }
+    ensures stopped { IfErr result (λ e. e ≡ NoMemory) }
 {
     match below {
         Reached::Laid => {
@@ -269,10 +334,7 @@ fn step_up(
             add(&mut laying.steps, step)?;
             Ok(Reached::Laid)
         }
-        Reached::Grown(child, half) => {
-            let (node, half) = grown_over(inner, place, down, child, half)?;
-            Ok(Reached::Grown(node, half))
-        }
+        Reached::Grown(child, upper) => Ok(grown_up(inner, place, down, child, upper)?),
         Reached::Same => Ok(Reached::Same),
         Reached::Refused(code) => Ok(Reached::Refused(code)),
     }
@@ -353,7 +415,7 @@ fn change_in<C: Chunks, F: FnOnce(Option<Json>) -> Result<Update, Stop>>(
             let child = child_at(inner, place);
             let deeper = down.below();
             let below = change_at(chunks, child, &deeper, laying, change)?;
-            Ok(step_up(inner, place, down, below, laying)?)
+            step_up(inner, place, down, below, laying)
         }
     }
 }

@@ -3,7 +3,7 @@ use Rattle.group_history.specs.Refs.{stamp_of}
 use Rattle.map_chunks.specs.Seeking.{chunk_depth}
 use Rattle.map_chunks.specs.Shown.{chunk_rows, rows_or}
 use Rattle.map_nodes.proofs.UpdateLemmas.{made_order, made_root}
-use Rattle.map_nodes.specs.Inside.Laying.{IsChunkEnd}
+use Rattle.map_nodes.specs.Inside.Laying.{IsBuilt, IsChunkEnd}
 use Rattle.map_nodes.specs.Trails.{trail_seen}
 use Rattle.map_nodes.specs.Updating.{IsPutIn, IsUpdated}
 use Rattle.map_nodes.proofs.roots.OwnRoot.settled.Goals as goal
@@ -41,12 +41,13 @@ topped-requires-clause-order g c =
     let p = g.C.Chunks.contents c.args.chunks.now in
     let may = g.C.Chunks.places c.args.chunks.now in
     let k = stamp_of c.args.at in
-    let h = subst (λ w. IsChunkEnd p may 1 true k (chunk_depth p k) (rows_or (chunk_rows p k)) c.args.down.now.key.now
-    c.requires.reached.0 w c.args.laying) c.in-Grown.is c.requires.reached.1 in (
-      p,
-      made_order p may 1 k h.3.0 c.args.down.now.key.now h.0 (chunk_rows p k) c.in-Grown.node.value c.in-Grown.half
-          c.requires.tree h.3.3,
-    )
+    let key = c.args.down.now.key.now in
+    let rows = rows_or (chunk_rows p k) in
+    let n = c.in-Grown.node.value in
+    let h = subst (λ w. IsChunkEnd p may 1 true k (chunk_depth p k) rows key c.requires.reached.0 w c.args.laying)
+    c.in-Grown.is c.requires.reached.1 in
+    let built = subst (IsBuilt p may 1 k h.3.0 rows key h.0 n) (sym c.into_half.ensures) h.3.3 in
+    (p, made_order p may 1 k h.3.0 key h.0 (chunk_rows p k) n c.into_half.result c.requires.tree built)
 
 pub returns-in_ok-root-in-Grown : goal.returns-in_ok-root-in-Grown
 returns-in_ok-root-in-Grown g c u reached =
@@ -56,9 +57,10 @@ returns-in_ok-root-in-Grown g c u reached =
     let key = c.args.down.now.key.now in
     let rows = rows_or (chunk_rows p k) in
     let n = c.in-Grown.node.value in
-    let half = c.in-Grown.half in
+    let half = c.into_half.result in
     let h = subst (λ w. IsChunkEnd p may 1 true k (chunk_depth p k) rows key u w c.args.laying) c.in-Grown.is
     reached in
+    let built = subst (IsBuilt p may 1 k h.3.0 rows key h.0 n) (sym c.into_half.ensures) h.3.3 in
     let root = c.in_ok-root-in-Grown.root in
     let made = c.made-in-Grown.ensures in
     subst (λ w. IsUpdated p p may k key w c.made-in-Grown.result) (sym h.1) (
@@ -66,6 +68,6 @@ returns-in_ok-root-in-Grown g c u reached =
       subst (IsPutIn p p may k key h.0) (sym (made.1 ∙ ap (λ w. Some w) c.new.ensures)) (
         h.3.0,
         h.3.1,
-        made_root p may k h.3.0 key h.0 rows n root half h.2 h.3.3 c.in_ok-root-in-Grown.ensures,
+        made_root p may k h.3.0 key h.0 rows n root half h.2 built c.in_ok-root-in-Grown.ensures,
       ),
     )

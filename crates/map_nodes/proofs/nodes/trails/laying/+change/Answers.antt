@@ -254,9 +254,9 @@ change_in-returns-in-Leaf-clause-stopped g t c =
           (finite.find (slice_cmp nat_cmp) c.args.down.now.key.now (rows_or w)) (Err e)) (sym is.0) f))
     ])
 
-pub change_in-returns-in_ok-step_up-in-Inner-clause-reached :
-    goal.change_in-returns-in_ok-step_up-in-Inner-clause-reached
-change_in-returns-in_ok-step_up-in-Inner-clause-reached g t c =
+pub change_in-returns-in_ok-below-in-Inner-clause-reached :
+    goal.change_in-returns-in_ok-below-in-Inner-clause-reached
+change_in-returns-in_ok-below-in-Inner-clause-reached g t c =
     let q = g.C.Chunks.contents c.args.chunks.now in
     let kids = c.in-Inner.inner in
     let key = c.args.down.now.key.now in
@@ -279,16 +279,17 @@ change_in-returns-in_ok-step_up-in-Inner-clause-reached g t c =
     ∙ w.same in
     let new = c.change_at.new in
     let r = c.in_ok-below-in-Inner.ensures.reached in
-    let u = r.0 in (
+    let u = r.0 in
+    ok_so c.step_up.result c.step_up.ensures.stepped (λ x h. (
       u,
       subst (λ z. Makes (λ f x s. g.F.FnOnce.post f (x, tt) s) c.args.change z (Ok u)) same r.1,
       reached_up q (g.C.Chunks.contents new.chunks) (g.C.Chunks.places new.chunks) c.args.down.now.copies
           c.args.down.now.as_trail key c.args.here.at below kids i u
-          c.in_ok-below-in-Inner.below c.in_ok-step_up-in-Inner.field-0 new.laying c.step_up.new.laying w
+          c.in_ok-below-in-Inner.below x new.laying c.step_up.new.laying w
           c.requires.known content c.change_at.ensures.grown.0 (λ at z. c.change_at.ensures.grown.1 at (all at z)) place
           b (reached_as (g.C.Chunks.contents new.chunks) (g.C.Chunks.places new.chunks) deeper.copies
           (c.args.down.now.copies + 1) deeper.as_trail c.args.down.now.as_trail (stamp_of below)
           (chunk_depth q (stamp_of below)) (rows_or (chunk_rows q (stamp_of below))) deeper.key.now key u
           c.in_ok-below-in-Inner.below new.laying c.below-deeper.ensures.copies c.below-deeper.ensures.trail
-          c.below-deeper.ensures.key r.2) c.in_ok-step_up-in-Inner.ensures,
-    )
+          c.below-deeper.ensures.key r.2) h,
+    ))

@@ -50,8 +50,9 @@ returns c =
       value,
       refl,
       no_other _ value none,
-      subst (λ n. IsMadeLeaf c.args.down.now.copies rows key value n c.in_ok-keys.half)
+      subst (IsMadeLeaf c.args.down.now.copies rows key value c.in_ok-boxed.field-0.value) (sym c.in_ok-upper.ensures)
+          (subst (λ n. IsMadeLeaf c.args.down.now.copies rows key value n c.in_ok-keys.half)
           (sym (c.in_ok-boxed.ensures ∙ c.of_rows-node.ensures))
           (made_longer c.args.down.now.copies rows key value texts values c.in_ok-keys.half none is.rows is.half
-          is.leaf.1 is.leaf.2 is.entries is.keys),
+          is.leaf.1 is.leaf.2 is.entries is.keys)),
     )

@@ -57,7 +57,9 @@ returns c key found =
       c.args.value,
       refl,
       value_differs _ there c.args.value c.eq.result is c.eq.ensures c.if-eq.false,
-      subst (λ n. IsMadeLeaf c.args.down.now.copies rows key c.args.value n None)
+      subst (IsMadeLeaf c.args.down.now.copies rows key c.args.value c.in_ok-boxed.field-0.value)
+          (sym c.in_ok-upper.ensures)
+          (subst (λ n. IsMadeLeaf c.args.down.now.copies rows key c.args.value n None)
           (sym (c.in_ok-boxed.ensures ∙ c.into_node.ensures))
-          (made_replaced c.args.down.now.copies rows key c.args.value c.args.place c.in_ok-end.end o found end),
+          (made_replaced c.args.down.now.copies rows key c.args.value c.args.place c.in_ok-end.end o found end)),
     )
