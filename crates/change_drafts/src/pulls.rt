@@ -19,8 +19,7 @@ use crate::runs::Setting;
 use crate::tips::{Tip, add_snapshot};
 use commit_graph::Base;
 use group_history::{
-    ConfirmedIds, Cookie, Ended, Mutators, PullOk, Ref, Refusal, cookie_cmp, is_going_back,
-    is_saying_nothing,
+    ConfirmedIds, Cookie, Ended, Mutators, PullOk, Ref, Refusal, cookie_cmp, is_saying_nothing,
 };
 use map_tree::{Chunks, Draft, Tree};
 use std::alloc::{AllocError, Global};
@@ -46,7 +45,7 @@ pub fn pull_outcome(base: &Base, ticket: &Cookie, pull: &PullOk) -> Result<Ended
             }
         }
         Ordering::Greater => {
-            if is_going_back(base.confirmed.as_map(), pull.changes()) {
+            if base.confirmed.is_above_some(pull.changes()) {
                 Err(Refusal::IdWentBack)
             } else {
                 Ok(Ended::Applied)

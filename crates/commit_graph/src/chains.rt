@@ -1,7 +1,8 @@
 //! A commit's chain: from a head by the bases down to a snapshot.
 //!
 //! Each look (`look_at_commit`) shows one commit to a closure, which tells what is wanted of it, and leaves it again.
-ghost use Rattle.std.specs.Prelude.{◌≡◌, [], ◌∷◌, ◌++◌, true, IfOk, IfErr, IsSome, option_map};
+ghost use Rattle.std.specs.Prelude.{◌≡◌, [], ◌∷◌, ◌++◌, true, IfOk, IfErr, IsSome, Some, None, option_map};
+ghost use Rattle.group_history.specs.Pulling.{overwritten};
 ghost use Rattle.group_history.specs.Refs.{stamp_of};
 ghost use Rattle.group_history.specs.Spelling.{said_id, version_at};
 ghost use Rattle.map_chunks.specs.Places.{Grows};
@@ -15,7 +16,7 @@ use group_history::{
     Commit, CommitChange, CommitKind, Confirmed, ConfirmedIds, Cookie, Mutation, Ref, Stop,
     Successor, Text,
 };
-use std::alloc::AllocError;
+use std::alloc::{AllocError, Global};
 
 /// A commit over a basis, as a link of its chain.
 #[derive(Drop)]
@@ -54,12 +55,25 @@ pub struct OwnId {
 /// What one commit says of clients' last ids.
 #[derive(Drop)]
 pub struct SaidIds {
-    /// The id of its own mutation, where it isn't known to be an old one.
+    /// The id of its own mutation, where the commit tells no others, and this isn't known to be an old one.
     pub said: Option<Confirmed>,
-    /// Each client's last id before it, where it tells them; at a snapshot, each client's confirmed one.
+    /// Each client's last id at it, where it tells them; at a snapshot, each client's confirmed one.
     pub told: Option<ConfirmedIds>,
     /// The commit where they are sought next, where it doesn't.
     pub next: Option<Ref>,
+}
+
+impl SaidIds {
+    // All that is to be said.
+    fn told(ids: ConfirmedIds) -> SaidIds
+        ensures { result ≡ record { said = None; told = Some ids; next = None } }
+    {
+        SaidIds {
+            said: None,
+            told: Some(ids),
+            next: None,
+        }
+    }
 }
 
 fn added_by(step: &CommitChange) -> Result<Option<Mutation>, AllocError>
@@ -198,31 +212,47 @@ fn said_of_step(step: &CommitChange, newer: &[Confirmed]) -> Result<Option<Confi
     }
 }
 
-fn copy_told(told: &Option<ConfirmedIds>) -> Result<Option<ConfirmedIds>, AllocError>
-    ensures { IfOk result (λ copy. copy ≡ told.now) }
+// What a commit tells, overwritten by the id of its own mutation.
+fn told_by(
+    alloc: Global,
+    ids: &ConfirmedIds,
+    step: &CommitChange,
+) -> Result<ConfirmedIds, AllocError>
+    ensures { IfOk result (λ told. told ≡ overwritten ids.now (listed (option_map said_id (added_by step.now)))) }
 {
-    match told {
-        Some(ids) => Ok(Some(ids.clone()?)),
-        None => Ok(None),
+    match step {
+        CommitChange::Local(mutation) => {
+            let own = Confirmed {
+                client: mutation.client.clone()?,
+                id: mutation.id,
+            };
+            ids.overwritten(alloc, &[own])
+        }
+        CommitChange::Closed => ids.clone(),
     }
 }
 
 /// What a commit says of clients' last ids that isn't known from these newer ones, of which the newest stands first.
-pub fn said_in(commit: &Commit<Ref>, newer: &[Confirmed]) -> Result<SaidIds, AllocError>
+pub fn said_in(
+    alloc: Global,
+    commit: &Commit<Ref>,
+    newer: &[Confirmed],
+) -> Result<SaidIds, AllocError>
     ensures { IfOk result (SaysIds newer.now (said_of commit.now)) }
 {
-    match &commit.kind {
-        CommitKind::Snapshot(snapshot) => Ok(SaidIds {
-            said: None,
-            told: Some(snapshot.confirmed.clone()?),
-            next: None,
-        }),
-        CommitKind::Over(over) => {
-            let said = said_of_step(&over.step, newer)?;
-            let told = copy_told(&over.told)?;
-            let next = next_told(over);
-            Ok(SaidIds { said, told, next })
+    let over = match &commit.kind {
+        CommitKind::Snapshot(snapshot) => {
+            return Ok(SaidIds::told(snapshot.confirmed.clone()?));
         }
+        CommitKind::Over(over) => over,
+    };
+    match &over.told {
+        Some(ids) => Ok(SaidIds::told(told_by(alloc, ids, &over.step)?)),
+        None => Ok(SaidIds {
+            said: said_of_step(&over.step, newer)?,
+            told: None,
+            next: Some(over.basis),
+        }),
     }
 }
 

@@ -17,7 +17,9 @@ ghost use Rattle.commit_graph.specs.LastIds.{last_at};
 ghost use Rattle.commit_graph.specs.Reach.{Reaches};
 ghost use Rattle.commit_graph.specs.declared.states.LastId.{LastId as Ids};
 
-use crate::chains::{Base, Top, base_in, cookie_in, link_in, look_at_commit, own_id_in, top_in};
+use crate::chains::{
+    Base, OwnId, Top, base_in, cookie_in, link_in, look_at_commit, own_id_in, top_in,
+};
 use crate::nodes::Nodes;
 use group_history::{ConfirmedIds, Cookie, Mutation, Ref, Stop, Text};
 use std::alloc::{AllocError, Global};
@@ -229,7 +231,21 @@ pub struct SoughtId {
 }
 
 /// How many commits a walk for a last id may look at that isn't far.
-pub const NEAR_COMMITS: u32 = 32;
+pub const NEAR_COMMITS: u32 = 8;
+
+/// How many stamps a head may be ahead of the client's own last commit that isn't far: some of each commit's nodes.
+const NEAR_STAMPS: u64 = 64;
+
+// Whether an id was found where ids are told, and others made many commits since the one at which it was found before.
+fn is_told_far(own: OwnId, before: Option<LastId>, head: Ref) -> bool {
+    if own.next.is_some() {
+        return false;
+    }
+    match before {
+        Some(found) => head.stamp().saturating_sub(found.at.stamp()) > NEAR_STAMPS,
+        None => true,
+    }
+}
 
 // The id that was found before, at the commit where it was found.
 fn found_at(before: Option<LastId>, at: Ref) -> Option<u64>
@@ -308,6 +324,7 @@ fn last_id_from<N: Nodes>(
             { own_id_in(commit, client) },
         )?;
         if own.id > 0 {
+            let is_far = is_far | is_told_far(own, before, head);
             return Ok(SoughtId { id: own.id, is_far });
         }
         next = own.next;

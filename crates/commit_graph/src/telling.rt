@@ -42,7 +42,7 @@ pub fn last_ids_at<N: Nodes>(alloc: Global, nodes: &mut N, head: Ref) -> Result<
             at,
             &mut |commit|
                 ensures { IfOk result (SaysIds before.entry.now (said_of commit.now)) }
-            { said_in(commit, before) },
+            { said_in(alloc, commit, before) },
         )??;
         add(&mut newer, found.said)?;
         told = found.told;
@@ -51,6 +51,9 @@ pub fn last_ids_at<N: Nodes>(alloc: Global, nodes: &mut N, head: Ref) -> Result<
     let Some(told) = told else {
         unreachable!();
     };
+    if newer.is_empty() {
+        return Ok(told);
+    }
     newer.reverse();
     Ok(told.overwritten(alloc, &newer)?)
 }

@@ -1,5 +1,6 @@
 pub mod Lists
 pub mod TextMaps
+pub mod Newer
 pub mod Places
 pub mod Replays
 pub mod Records

@@ -33,6 +33,7 @@
 mod changes;
 mod confirmed;
 mod cookies;
+mod id_table;
 mod json;
 mod laws;
 mod mutations;
@@ -65,6 +66,6 @@ pub use refs::{MAX_SEATS, MAX_SLOTS, Ref, STAMP_BITS, STAMPS};
 pub use refusals::Refusal;
 pub use responses::{Confirmed, Ended, Patch, PullOk, Response, VersionKind};
 pub use scans::{Scan, Start};
-pub use steps::{apply_patch, is_going_back, is_saying_nothing, keep_unconfirmed, overwrite};
+pub use steps::{apply_patch, is_saying_nothing, keep_unconfirmed};
 pub use text_map::TextMap;
 pub use texts::{SearchKey, Text, is_word};

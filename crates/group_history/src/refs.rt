@@ -1,5 +1,5 @@
 //! Where a node is found, and how many stamps, slots and seats there may be.
-ghost use Rattle.std.specs.Prelude.{◌≡◌, ◌<◌, ◌+◌, ◌*◌};
+ghost use Rattle.std.specs.Prelude.{◌≡◌, ◌<◌, ◌+◌, ◌-◌, ◌*◌, min, nat_lt};
 ghost use Rattle.group_history.specs.Refs.{stamp_of, slot_of, stamps, max_slots};
 
 /// How many bits of a reference's word hold the stamp. The others hold the slot's number.
@@ -33,6 +33,21 @@ impl Ref {
         Ref {
             bits: stamp * MAX_SLOTS + slot as u64,
         }
+    }
+
+    /// The first reference of a stamp, or of the last stamp where none is so high.
+    pub(crate) fn first_of(stamp: u64) -> Ref
+        ensures stamp { stamp_of result ≡ min stamp (stamps - 1) }
+        ensures slot { slot_of result ≡ 0 }
+    {
+        Ref::new(stamp.min(STAMPS - 1), 0)
+    }
+
+    /// Whether it comes before another one: by stamps, and then by slots.
+    pub(crate) fn is_before(self, other: Ref) -> bool
+        ensures { result ≡ nat_lt self.bits other.bits }
+    {
+        self.bits < other.bits
     }
 
     /// The reference that a word holds; every word holds one.

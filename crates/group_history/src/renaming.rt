@@ -26,8 +26,9 @@ fn renamed_ref(at: Ref, from: u64, refs: &[Ref]) -> Ref
 fn rename_all(mut children: Vec<Ref>, from: u64, refs: &[Ref]) -> Vec<Ref>
     ensures { result.items ≡ map (placed_ref from refs.now) children.items }
 {
+    let first = Ref::first_of(from);
     for place in 0..children.len() {
-        if children[place].stamp() >= from {
+        if !children[place].is_before(first) {
             children[place] = renamed_ref(children[place], from, refs);
         }
     }

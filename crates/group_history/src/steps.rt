@@ -48,7 +48,7 @@ pub(crate) fn greatest_id(first: u64, client: &Text, pending: &[Mutation]) -> u6
 }
 
 /// Whether some change is below the confirmed id of its client.
-pub fn is_going_back(ids: &TextMap<u64>, changes: &[Confirmed]) -> bool
+pub(crate) fn is_going_back(ids: &TextMap<u64>, changes: &[Confirmed]) -> bool
     ensures { result ≡ goes_back ids.now changes.now }
 {
     changes
@@ -57,10 +57,13 @@ pub fn is_going_back(ids: &TextMap<u64>, changes: &[Confirmed]) -> bool
 }
 
 /// The confirmed ids after the changes, in order.
-pub fn overwrite(ids: &TextMap<u64>, changes: &[Confirmed]) -> Result<TextMap<u64>, AllocError>
-    ensures { IfOk result (λ m. m ≡ overwritten ids.now changes.now) }
+pub(crate) fn overwrite(
+    ids: TextMap<u64>,
+    changes: &[Confirmed],
+) -> Result<TextMap<u64>, AllocError>
+    ensures { IfOk result (λ m. m ≡ overwritten ids changes.now) }
 {
-    let mut after = ids.copied()?;
+    let mut after = ids;
     for change in changes {
         after.insert(change.client.clone()?, change.id)?;
     }
@@ -127,7 +130,7 @@ pub(crate) fn confirm(
     ensures confirmed { IfOk result (λ u. u.confirmed ≡ overwritten ids.now changes.now) }
     ensures pending { IfOk result (λ u. u.pending.items ≡ left_pending u.confirmed pending.now) }
 {
-    let confirmed = overwrite(ids, changes)?;
+    let confirmed = overwrite(ids.copied()?, changes)?;
     let pending = keep_unconfirmed(alloc, &confirmed, pending)?;
     Ok(Unconfirmed { confirmed, pending })
 }

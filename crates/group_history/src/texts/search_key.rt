@@ -36,21 +36,42 @@ impl<'a> SearchKey<'a> {
     }
 
     /// How the given text stands to this one, by bytes.
-    #[inline]
+    // Not inlined: so the searches that call it are small, and are inlined themselves.
+    #[inline(never)]
     pub fn order_of(&self, text: &Text) -> Ordering
         ensures { result ≡ slice_cmp nat_cmp text.now self.now }
     {
-        if let Kept::Short(short) = &text.kept {
-            let order = short.front().cmp(&self.front);
-            if order.is_ne() {
-                return order;
-            }
-            let (len, own) = (short.as_str().len(), self.text.len());
-            if len <= 16 && own <= 16 {
-                return len.cmp(&own);
-            }
+        match &text.kept {
+            Kept::Short(short) => self.order_by(short.front(), short.as_str()),
+            Kept::Middling(middling) => self.order_by(middling.front(), middling.as_str()),
+            Kept::Long(long) => self.order_by_all(long.as_str()),
         }
-        text.as_str().cmp(self.text)
+    }
+
+    // The same, of a text whose front is known.
+    #[inline(always)]
+    fn order_by(&self, front: u128, text: &str) -> Ordering
+        requires front { front ≡ front_of text.now }
+        requires bytes { AreBytes text.now }
+        ensures { result ≡ slice_cmp nat_cmp text.now self.now }
+    {
+        let order = front.cmp(&self.front);
+        if order.is_ne() {
+            return order;
+        }
+        let (len, own) = (text.len(), self.text.len());
+        if len <= 16 && own <= 16 {
+            return len.cmp(&own);
+        }
+        self.order_by_all(text)
+    }
+
+    // The same, by all bytes.
+    #[inline(never)]
+    fn order_by_all(&self, text: &str) -> Ordering
+        ensures { result ≡ slice_cmp nat_cmp text.now self.now }
+    {
+        text.cmp(self.text)
     }
 
     /// Whether the given text is above this one, by bytes.
@@ -70,11 +91,11 @@ impl<'a> SearchKey<'a> {
         self.is_below_all(text)
     }
 
-    // The same, by all bytes.
+    // The same, where the front of a short text doesn't tell.
     #[inline(never)]
     fn is_below_all(&self, text: &Text) -> bool
         ensures { result ≡ is_gt (slice_cmp nat_cmp text.now self.now) }
     {
-        text.as_str().cmp(self.text).is_gt()
+        self.order_of(text).is_gt()
     }
 }
