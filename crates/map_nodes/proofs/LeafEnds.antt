@@ -2,12 +2,15 @@
 use Rattle.std.proofs.Common.{◌≡◌, ◌∙◌, ◌<◌, ◌++◌, ◌∷◌, ℕ, zero, suc, Bool, List, [], Option, Some, None, append-nil}
 use Rattle.std.proofs.Common.{ap, arith, false, inl, inr, length, nat_cmp, not, refl, reverse, slice_get, subst, sym}
 use Rattle.std.proofs.Common.{true}
+use Rattle.std.proofs.Common.{Result, Ok, Err}
 use Rattle.std.specs.Option.{is_some}
+use Rattle.std.specs.Result.{OnOk}
 use Rattle.std.specs.Arc.{arc_value}
 use Rattle.std.specs.Cmp.Lexicographic.{slice_cmp}
 use Rattle.std.specs.FinMap.{find, put}
 use mathlib.Core.List.{IsPrefix}
 use Rattle.group_history.specs.declared.mutators.Update.{Update}
+use Rattle.group_history.specs.declared.mutators.Update.TheVariants.{Put}
 use Rattle.group_history.specs.declared.nodes.Chunk.TheVariants as chunked
 use Rattle.group_history.specs.declared.refs.Ref.{Ref}
 use Rattle.group_history.specs.Map.{Bytes}
@@ -33,12 +36,13 @@ use Rattle.map_nodes.proofs.NodeLemmas.{shown-rows}
 use Rattle.map_nodes.proofs.PutLevels.{leaf_put_levels, put_as, put_copied}
 use Rattle.map_nodes.specs.Inside.Counts.{HasKept}
 use Rattle.map_nodes.specs.Inside.Halves.{half_pieces, IsHalf}
+use Rattle.map_nodes.specs.Inside.Nodes.{Kid}
 use Rattle.map_nodes.specs.Inside.Laying.{rows_seen, IsLeafEnd, IsBuilt, IsMadeLeaf, IsPutEnd, IsChunkEnd}
 use Rattle.map_nodes.specs.Inside.Puts.{half_levels, IsLeafPut}
 use Rattle.map_nodes.specs.Levels.{levels_of, nothing, placed_levels, seen_levels, topped, ArePut}
 use Rattle.map_nodes.specs.Levels.{RenewedLater}
 use Rattle.map_nodes.specs.Nodes.{row_pieces}
-use Rattle.map_nodes.specs.Trails.{leaf_seen, trail_seen, IsTrail}
+use Rattle.map_nodes.specs.Trails.{leaf_seen, trail_seen, IsTrail, IsTrailEnd}
 use Rattle.map_nodes.specs.declared.nodes.putting.Half.{Half}
 use Rattle.map_nodes.specs.declared.nodes.trails.End.{End}
 use Rattle.map_nodes.specs.declared.nodes.trails.laying.Laying.{Laying}
@@ -90,6 +94,28 @@ pub no_half : (half : Option Half) (none : Bool) → is_some half ≡ not none �
 no_half None none s e = refl
 no_half (Some h) true s e = absurd cc
 no_half (Some h) false s e = absurd cc
+
+-- what a way ends in at a leaf, where the new one was laid
+pub laid_end : {A E : Type 0} (copies : ℕ) (as_trail : Bool) (rows : Rows) (key v : Bytes) (e : End) (l : Laying)
+    (r : Result A E) → (find (slice_cmp nat_cmp) key rows ≡ Some v → ⊥) → as_trail ≡ true → IsTrailEnd e
+    → IsMadeLeaf copies rows key v (leaf_seen e) None
+    → OnOk r ((l.steps.items ≡ []) × (l.end ≡ Some e) × (l.reached ≡ Laid))
+    → OnOk r (IsLeafEnd copies as_trail rows key (Put v) l.reached l)
+laid_end copies as_trail rows key v e l (Ok x) other trail o m h =
+    subst (λ w. IsLeafEnd copies as_trail rows key (Put v) w l) (sym h.2)
+    (v, refl, other, trail, h.0, (e, h.1, o, m))
+laid_end copies as_trail rows key v e l (Err x) other trail o m h = tt
+
+-- and where an own one was made
+pub grown_end : {A E : Type 0} (copies : ℕ) (as_trail : Bool) (rows : Rows) (key v : Bytes) (n : Seen)
+    (half : Option Half) (l : Laying) (r : Result A E) → (find (slice_cmp nat_cmp) key rows ≡ Some v → ⊥)
+    → IsMadeLeaf copies rows key v n half
+    → OnOk r ((kid : Kid) × (kid.value ≡ n) × (l.reached ≡ Grown kid half))
+    → OnOk r (IsLeafEnd copies as_trail rows key (Put v) l.reached l)
+grown_end copies as_trail rows key v n half l (Ok x) other m h =
+    subst (λ w. IsLeafEnd copies as_trail rows key (Put v) w l) (sym h.2)
+    (v, refl, other, subst (λ w. IsMadeLeaf copies rows key v w half) (sym h.1) m)
+grown_end copies as_trail rows key v n half l (Err x) other m h = tt
 
 -- A PLACED LEAF
 

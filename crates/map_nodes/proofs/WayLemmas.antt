@@ -152,19 +152,6 @@ reached_up q r may copies as_trail key at below kids i u (Grown child half) y ol
       ),
     )
 
-pub ok_so : {A E : Type 0} {P Q : A → Type 0} (r : Result A E) → IfOk r P → ((a : A) → P a → Q a) → IfOk r Q
-ok_so (Ok a) h f = f a h
-ok_so (Err e) h f = tt
-
 pub err_so : {A E : Type 0} {P Q : E → Type 0} (r : Result A E) → IfErr r P → ((e : E) → P e → Q e) → IfErr r Q
 err_so (Ok a) h f = tt
 err_so (Err e) h f = f e h
-
--- the same told by other words
-pub reached_as : (q : Contents) (may : Ref → Type 0) (n m : ℕ) (a b : Bool) (stamp : ℕ) (depth : Option ℕ)
-    (rows : Rows) (j k : Bytes) (u : Update) (x : Reached) (l : Laying) → n ≡ m → a ≡ b → j ≡ k
-    → IsChunkEnd q may n a stamp depth rows j u x l → IsChunkEnd q may m b stamp depth rows k u x l
-reached_as q may n m a b stamp depth rows j k u x l e f g h =
-    subst (λ z. IsChunkEnd q may z b stamp depth rows k u x l) e
-    (subst (λ z. IsChunkEnd q may n z stamp depth rows k u x l) f
-    (subst (λ z. IsChunkEnd q may n a stamp depth rows z u x l) g h))

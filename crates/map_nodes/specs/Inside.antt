@@ -16,6 +16,8 @@ pub mod Puts
 -- A removal: what chunks with one child each end in, and what becomes of children and root.
 pub mod Ends
 pub mod Removing
--- The way down from a placed chunk, and what is made on the way up; where on a trail a key belongs.
+-- The way down from a placed chunk, the change that waits to be asked, and what is made on the way up; where on a
+-- trail a key belongs.
+pub mod Asking
 pub mod Laying
 pub mod Spots

@@ -142,8 +142,9 @@ impl OwnRoot {
             as_trail: true,
         };
         let mut laying = Laying::new(alloc);
-        let reached = change_at(chunks, at, &down, &mut laying, change)?;
-        Ok(OwnRoot::settled(chunks, at, &down, reached, laying)?)
+        let mut asked = Some(change);
+        change_at(chunks, at, &down, down.copies, &mut laying, &mut asked)?;
+        Ok(OwnRoot::settled(chunks, at, &down, laying)?)
     }
 
     // What a way down from a placed chunk to a key ended in, as a map.
@@ -152,23 +153,27 @@ impl OwnRoot {
         chunks: &C,
         at: Ref,
         down: &Down<'_>,
-        reached: Reached,
         laying: Laying,
     ) -> Result<Updated, AllocError>
         requires tree { IsTree (chunk_rows (C.contents chunks.now) (stamp_of at)) }
         requires reached { (u : Updates) × IsChunkEnd (C.contents chunks.now) (C.places chunks.now) 1 true
             (stamp_of at) (chunk_depth (C.contents chunks.now) (stamp_of at))
-            (rows_or (chunk_rows (C.contents chunks.now) (stamp_of at))) down.now.key.now u reached laying }
+            (rows_or (chunk_rows (C.contents chunks.now) (stamp_of at))) down.now.key.now u laying.reached laying }
         ensures { (u : Updates) → IsChunkEnd (C.contents chunks.now) (C.places chunks.now) 1 true (stamp_of at)
             (chunk_depth (C.contents chunks.now) (stamp_of at))
-            (rows_or (chunk_rows (C.contents chunks.now) (stamp_of at))) down.now.key.now u reached laying
+            (rows_or (chunk_rows (C.contents chunks.now) (stamp_of at))) down.now.key.now u laying.reached laying
             → IfOk result (IsUpdated (C.contents chunks.now) (C.contents chunks.now) (C.places chunks.now) (stamp_of at)
             down.now.key.now u) }
     {
+        let Laying {
+            steps,
+            end,
+            reached,
+        } = laying;
         match reached {
             Reached::Same => Ok(Updated::kept(Ran::Done)),
             Reached::Refused(code) => Ok(Updated::kept(Ran::Refused(code))),
-            Reached::Laid => Ok(Updated::made(OwnRoot::of_trail(Trail::of(laying)))),
+            Reached::Laid => Ok(Updated::made(OwnRoot::of_trail(Trail::of(steps, end)))),
             Reached::Grown(node, upper) => {
                 prove!(at.stamp() < STAMPS);
                 let root = topped(down.alloc, node, upper.into_half())?;

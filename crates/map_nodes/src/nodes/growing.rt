@@ -38,18 +38,17 @@ pub(crate) struct Down<'a> {
 }
 
 impl<'a> Down<'a> {
-    /// The way on below a chunk.
-    pub(crate) fn below(&self) -> Down<'a>
-        requires { self.now.copies + 1 < 2 ^ 64 }
+    /// The same way, where it has come to a chunk for which so many copies are wanted.
+    pub(crate) fn under(&self, copies: usize) -> Down<'a>
         ensures key { result.key.now ≡ self.now.key.now }
-        ensures copies { result.copies ≡ self.now.copies + 1 }
+        ensures copies { result.copies ≡ copies }
         ensures trail { result.as_trail ≡ self.now.as_trail }
     {
         Down {
             alloc: self.alloc,
             key: self.key,
             searched: self.searched,
-            copies: self.copies + 1,
+            copies,
             as_trail: self.as_trail,
         }
     }

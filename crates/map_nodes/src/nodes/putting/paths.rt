@@ -245,7 +245,14 @@ fn change_placed<C: Chunks, F: FnOnce(Option<Json>) -> Result<Update, Stop>>(
         as_trail: false,
     };
     let mut laying = Laying::new(put.alloc);
-    change_at(chunks, at, &down, &mut laying, change)
+    let mut asked = Some(change);
+    change_at(chunks, at, &down, down.copies, &mut laying, &mut asked)?;
+    let Laying {
+        steps: _,
+        end: _,
+        reached,
+    } = laying;
+    Ok(reached)
 }
 
 // The own chunks that were made of a placed child, and what the chunk above needs for them.

@@ -5,7 +5,7 @@
 //! asked for and no chunk is split, and own chunks otherwise. All chunks stay as they are until all new ones are made,
 //! so memory may be refused on the way up, too.
 ghost use Rattle.std.specs.Prelude.{◌≡◌, ◌⊎◌, ◌++◌, ◌∷◌, ◌+◌, ◌<◌, ◌^◌, [], ℕ, length, Ok, Err, Option, Some, None};
-ghost use Rattle.std.specs.Prelude.{IfOk, IfErr, OnOk, vec_items, slice_get, slice_index_or, reverse};
+ghost use Rattle.std.specs.Prelude.{IfOk, IfErr, OnOk, vec_items, slice_get, slice_index_or, slice_set, reverse};
 ghost use Rattle.std.specs.Ordering.{nat_cmp};
 ghost use Rattle.std.specs.Cmp.Lexicographic.{slice_cmp};
 ghost use Rattle.std.specs.Arc.{arc_value};
@@ -21,12 +21,15 @@ ghost use Rattle.map_chunks.specs.Places.{Grows, AreAll};
 ghost use Rattle.map_chunks.specs.Search.{IsAbsent, IsFound, IsPlace};
 ghost use Rattle.map_chunks.specs.Seeking.{chunk_depth};
 ghost use Rattle.map_chunks.specs.Shown.{chunk_rows, rows_or, IsTree};
-ghost use Rattle.map_nodes.specs.Changes.{CanMake, Makes};
+ghost use Rattle.map_nodes.specs.Inside.Asking.{Asked, CanBeAsked};
 ghost use Rattle.map_nodes.specs.Inside.Halves.{lowered, IsLower};
 ghost use Rattle.map_nodes.specs.Inside.Laying.{IsPutEnd, IsCopiedStep, IsLeafEnd, IsChunkEnd, CanGrowOver, CanStep};
 ghost use Rattle.map_nodes.specs.Inside.Laying.{IsGrownUp, IsStepped};
 ghost use Rattle.map_nodes.specs.Trails.{leaf_seen, trail_seen, IsTrailEnd, IsTrail};
+ghost use Rattle.map_nodes.specs.Inside.Nodes.{Kid};
 ghost use Rattle.map_nodes.specs.declared.nodes.trails.End.{End as Ends};
+ghost use Rattle.map_nodes.specs.declared.nodes.trails.Step.{Step as Steps};
+ghost use Rattle.map_nodes.specs.declared.nodes.trails.laying.Reached.TheVariants.{Grown as Grew, Laid};
 
 use super::super::OwnNode;
 use super::super::copies::copied_values;
@@ -41,14 +44,16 @@ use map_chunks::search::{place_for, search_for};
 use map_chunks::{Chunks, ShowsChunk};
 use std::alloc::{AllocError, Global};
 use std::marker::Model;
+use std::mem::replace;
 use std::sync::Arc;
 
-/// New chunks on the way up, where there are any: a leaf, and those above it, the lowest first. They are written where
-/// they stay, since each level would move them once more.
+/// What a way down ends in, and new chunks on the way up, where there are any: a leaf, and those above it, the lowest
+/// first. They are written where they stay, since each level would move them once more.
 #[derive(Drop)]
 pub(crate) struct Laying {
-    steps: Vec<Step>,
-    end: Option<End>,
+    pub(crate) steps: Vec<Step>,
+    pub(crate) end: Option<End>,
+    pub(crate) reached: Reached,
 }
 
 impl Laying {
@@ -57,16 +62,28 @@ impl Laying {
         Laying {
             steps: Vec::new(alloc),
             end: None,
+            reached: Reached::Same,
         }
     }
 
     // A new leaf, and room for so many steps above it.
     #[inline(always)]
     fn begin(&mut self, alloc: Global, above: usize, end: End) -> Result<(), AllocError>
-        ensures { OnOk result ((self.new.steps.items ≡ []) × (self.new.end ≡ Some end)) }
+        ensures { OnOk result ((self.new.steps.items ≡ []) × (self.new.end ≡ Some end) × (self.new.reached ≡ Laid)) }
     {
         self.steps = Vec::with_capacity(alloc, above)?;
         self.end = Some(end);
+        self.reached = Reached::Laid;
+        Ok(())
+    }
+
+    // An own chunk, and its upper half where it was split.
+    #[inline(never)]
+    fn grow(&mut self, alloc: Global, node: OwnNode, half: Option<Half>) -> Result<(), AllocError>
+        ensures { OnOk result ((n : Kid) × (n.value ≡ node) × (self.new.reached ≡ Grew n half)) }
+    {
+        let upper = Upper::new(alloc, half)?;
+        self.reached = Reached::Grown(boxed(alloc, node)?, upper);
         Ok(())
     }
 }
@@ -154,25 +171,23 @@ fn put_found(
     down: &Down<'_>,
     value: Json,
     laying: &mut Laying,
-) -> Result<Reached, AllocError>
+) -> Result<(), AllocError>
     requires within { place < length leaf.now }
-    ensures { (key : Bytes) → IsFound key (keys_of leaf.now) place
-        → IfOk result (λ r. IsLeafEnd down.now.copies down.now.as_trail leaf.now key
-        (Puts value) r laying.new) }
+    ensures { (key : Bytes) → IsFound key (keys_of leaf.now) place → OnOk result (IsLeafEnd down.now.copies
+        down.now.as_trail leaf.now key (Puts value) laying.new.reached laying.new) }
 {
     // Each value has its key, and these are in order.
     prove!(place < leaf.keys().as_slice().len());
     if leaf.values()[place] == value {
         drop(value);
-        return Ok(Reached::Same);
+        laying.reached = Reached::Same;
+        return Ok(());
     }
     let end = End::replaced(down.alloc, leaf, place, value)?;
     if down.as_trail {
-        laying.begin(down.alloc, down.copies, end)?;
-        return Ok(Reached::Laid);
+        return laying.begin(down.alloc, down.copies, end);
     }
-    let upper = Upper::new(down.alloc, None)?;
-    Ok(Reached::Grown(boxed(down.alloc, end.into_node())?, upper))
+    laying.grow(down.alloc, end.into_node(), None)
 }
 
 // What becomes of a leaf that has one row more, before the one at a place.
@@ -183,22 +198,19 @@ fn put_absent(
     down: &Down<'_>,
     value: Json,
     laying: &mut Laying,
-) -> Result<Reached, AllocError>
+) -> Result<(), AllocError>
     requires absent { IsAbsent down.now.key.now (keys_of leaf.now) place }
-    ensures { IfOk result (λ r. IsLeafEnd down.now.copies down.now.as_trail leaf.now
-        down.now.key.now (Puts value) r laying.new) }
+    ensures { OnOk result (IsLeafEnd down.now.copies down.now.as_trail leaf.now down.now.key.now (Puts value)
+        laying.new.reached laying.new) }
 {
     // The keys are in order.
     prove!(place <= leaf.keys().as_slice().len());
     let (keys, values, half) = grown_rows(leaf, place, down, value)?;
     if down.as_trail && half.is_none() {
         let keys = keys.into_keys(down.alloc)?;
-        laying.begin(down.alloc, down.copies, End { keys, values })?;
-        return Ok(Reached::Laid);
+        return laying.begin(down.alloc, down.copies, End { keys, values });
     }
-    let node = OwnNode::of_rows(keys, values);
-    let upper = Upper::new(down.alloc, half)?;
-    Ok(Reached::Grown(boxed(down.alloc, node)?, upper))
+    laying.grow(down.alloc, OwnNode::of_rows(keys, values), half)
 }
 
 // What becomes of a leaf in which a key was found at a place, or has its place before one.
@@ -208,15 +220,18 @@ fn put_in(
     down: &Down<'_>,
     update: Update,
     laying: &mut Laying,
-) -> Result<Reached, AllocError>
+) -> Result<(), AllocError>
     requires found { IfOk found (IsFound down.now.key.now (keys_of leaf.now)) }
     requires absent { IfErr found (IsAbsent down.now.key.now (keys_of leaf.now)) }
-    ensures { IfOk result (λ r. IsLeafEnd down.now.copies down.now.as_trail leaf.now
-        down.now.key.now update r laying.new) }
+    ensures { OnOk result (IsLeafEnd down.now.copies down.now.as_trail leaf.now down.now.key.now update
+        laying.new.reached laying.new) }
 {
     let value = match update {
         Update::Put(value) => value,
-        Update::Refuse(code) => return Ok(Reached::Refused(code)),
+        Update::Refuse(code) => {
+            laying.reached = Reached::Refused(code);
+            return Ok(());
+        }
     };
     match found {
         Ok(place) => put_found(leaf, place, down, value, laying),
@@ -225,22 +240,25 @@ fn put_in(
 }
 
 // What the change makes of a leaf.
+#[inline(never)]
 fn change_leaf<F: FnOnce(Option<Json>) -> Result<Update, Stop>>(
     leaf: &Leaf,
     down: &Down<'_>,
+    copies: usize,
     laying: &mut Laying,
-    change: ValueChange<F>,
-) -> Result<Reached, Stop>
-    requires callable { CanMake (λ f. F.IsAlwaysCallable f) change }
-    ensures reached { IfOk result (λ r. (u : Updates) × Makes (λ f x r. F.post f x r) change (finite.find
+    asked: &mut Option<ValueChange<F>>,
+) -> Result<(), Stop>
+    requires callable { CanBeAsked (λ f. F.IsAlwaysCallable f) asked.old }
+    ensures reached { OnOk result ((u : Updates) × Asked (λ f x r. F.post f x r) asked.old (finite.find
         (slice_cmp nat_cmp) down.now.key.now leaf.now) (Ok u)
-        × IsLeafEnd down.now.copies down.now.as_trail leaf.now down.now.key.now u r laying.new) }
-    ensures stopped { IfErr result (λ e. (e ≡ NoMemory) ⊎ Makes (λ f x r. F.post f x r) change (finite.find
+        × IsLeafEnd copies down.now.as_trail leaf.now down.now.key.now u laying.new.reached laying.new) }
+    ensures stopped { IfErr result (λ e. (e ≡ NoMemory) ⊎ Asked (λ f x r. F.post f x r) asked.old (finite.find
         (slice_cmp nat_cmp) down.now.key.now leaf.now) (Err e)) }
 {
     let found = search_for(leaf.keys().as_slice(), down.searched);
+    let change = asked.take().unwrap();
     let update = change.of(value_found(leaf.values(), &found))?;
-    Ok(put_in(leaf, found, down, update, laying)?)
+    Ok(put_in(leaf, found, &down.under(copies), update, laying)?)
 }
 
 // The first keys of an inner chunk, of which the first is the key where that is below it.
@@ -251,36 +269,45 @@ fn step_keys(inner: &Inner<Ref>, place: usize, down: &Down<'_>) -> Result<Arc<Ke
         × IsLower down.now.key.now (slice_index_or (keys_of inner.now) place []) lower
         × (arc_value keys ≡ lowered place lower (keys_of inner.now)))) }
 {
-    let firsts = inner.firsts();
+    let firsts = inner.firsts().clone()?;
     if place > 0 || !down.searched.is_below(&firsts.as_slice()[0]) {
-        return Ok(firsts.clone()?);
+        return Ok(firsts);
     }
-    let mut keys = NodeKeys::shared(firsts.clone()?);
+    lowered_keys(firsts, down)
+}
+
+// First keys of which the first becomes the key.
+#[inline(never)]
+fn lowered_keys(firsts: Arc<Keys>, down: &Down<'_>) -> Result<Arc<Keys>, AllocError>
+    requires filled { 0 < length (arc_value firsts) }
+    requires keys { AreKeys (slice_set (arc_value firsts) 0 down.now.key.now) }
+    ensures { IfOk result (λ keys. arc_value keys ≡ slice_set (arc_value firsts) 0 down.now.key.now) }
+{
+    let mut keys = NodeKeys::shared(firsts);
     keys.make_room(down.alloc)?;
     keys.set(0, Text::new(down.alloc, down.key)?);
     keys.into_keys(down.alloc)
 }
 
-// An inner chunk copied, above the new chunk in the place of the child at a place.
-#[inline(always)]
-fn copied_step(inner: &Inner<Ref>, place: usize, down: &Down<'_>) -> Result<Step, AllocError>
+// Adds an inner chunk copied, above the new chunk in the place of the child at a place.
+#[inline(never)]
+fn add_step(
+    inner: &Inner<Ref>,
+    place: usize,
+    down: &Down<'_>,
+    steps: &mut Vec<Step>,
+) -> Result<(), AllocError>
     requires place { IsPlace down.now.key.now (keys_of inner.now) place }
-    ensures { IfOk result (λ s. IsCopiedStep inner.now down.now.key.now s × (s.place ≡ place)) }
+    ensures { OnOk result ((s : Steps) × IsCopiedStep inner.now down.now.key.now s × (s.place ≡ place)
+        × (steps.new.items ≡ steps.old.items ++ s ∷ [])) }
 {
     let keys = step_keys(inner, place, down)?;
-    let mut children = Vec::with_capacity(down.alloc, inner.children().len())?;
-    children.extend_from_slice(inner.children())?;
-    Ok(Step {
+    let children = inner.children().to_vec(down.alloc)?;
+    steps.push(Step {
         keys,
         children,
         place,
-    })
-}
-
-fn add(steps: &mut Vec<Step>, step: Step) -> Result<(), AllocError>
-    ensures { OnOk result (steps.new.items ≡ steps.old.items ++ step ∷ []) }
-{
-    steps.push(step)?;
+    })?;
     Ok(())
 }
 
@@ -295,49 +322,56 @@ fn child_at(inner: &Inner<Ref>, place: usize) -> Ref
     child
 }
 
-// An inner chunk above an own child, as what a way ends in.
+// An inner chunk above the own child that the way below it ends in.
 #[inline(never)]
 fn grown_up(
     inner: &Inner<Ref>,
     place: usize,
     down: &Down<'_>,
-    child: Box<OwnNode>,
-    upper: Upper,
-) -> Result<Reached, AllocError>
+    copies: usize,
+    laying: &mut Laying,
+) -> Result<(), AllocError>
     requires place { IsPlace down.now.key.now (keys_of inner.now) place }
-    requires fits { CanGrowOver down.now.copies inner.now down.now.key.now place child.value upper }
-    ensures { IfOk result (IsGrownUp down.now.copies inner.now down.now.key.now place child.value upper) }
+    requires grown { laying.old.reached ≡ Laid → ⊥ }
+    requires fits { CanStep copies inner.now down.now.key.now place laying.old.reached }
+    ensures { OnOk result (IsStepped copies inner.now down.now.key.now place laying.old.reached
+        laying.new.reached laying.old laying.new) }
 {
-    let (node, half) = grown_over(inner, place, down, child, upper.into_half())?;
-    let upper = Upper::new(down.alloc, half)?;
-    Ok(Reached::Grown(node, upper))
+    match replace(&mut laying.reached, Reached::Same) {
+        Reached::Grown(child, upper) => {
+            let (node, half) = grown_over(
+                inner,
+                place,
+                &down.under(copies),
+                child,
+                upper.into_half(),
+            )?;
+            let upper = Upper::new(down.alloc, half)?;
+            laying.reached = Reached::Grown(node, upper);
+        }
+        below => laying.reached = below,
+    }
+    Ok(())
 }
 
-// What the way through an inner chunk ends in, where the way below the child at a place ends so.
+// What the way through an inner chunk ends in, where the way below the child at a place ended so.
 #[inline(always)]
 fn step_up(
     inner: &Inner<Ref>,
     place: usize,
     down: &Down<'_>,
-    below: Reached,
+    copies: usize,
     laying: &mut Laying,
-) -> Result<Reached, Stop>
+) -> Result<(), AllocError>
     requires place { IsPlace down.now.key.now (keys_of inner.now) place }
-    requires fits { CanStep down.now.copies inner.now down.now.key.now place below }
-    ensures stepped { IfOk result (λ r. IsStepped down.now.copies inner.now down.now.key.now place below r laying.old
-        laying.new) }
-    ensures stopped { IfErr result (λ e. e ≡ NoMemory) }
+    requires fits { CanStep copies inner.now down.now.key.now place laying.old.reached }
+    ensures { OnOk result (IsStepped copies inner.now down.now.key.now place laying.old.reached laying.new.reached
+        laying.old laying.new) }
 {
-    match below {
-        Reached::Laid => {
-            let step = copied_step(inner, place, down)?;
-            add(&mut laying.steps, step)?;
-            Ok(Reached::Laid)
-        }
-        Reached::Grown(child, upper) => Ok(grown_up(inner, place, down, child, upper)?),
-        Reached::Same => Ok(Reached::Same),
-        Reached::Refused(code) => Ok(Reached::Refused(code)),
+    if let Reached::Laid = &laying.reached {
+        return add_step(inner, place, down, &mut laying.steps);
     }
+    grown_up(inner, place, down, copies, laying)
 }
 
 /// A placed chunk that is shown.
@@ -355,29 +389,31 @@ pub(crate) fn change_at<C: Chunks, F: FnOnce(Option<Json>) -> Result<Update, Sto
     chunks: &mut C,
     at: Ref,
     down: &Down<'_>,
+    copies: usize,
     laying: &mut Laying,
-    change: ValueChange<F>,
-) -> Result<Reached, Stop>
+    asked: &mut Option<ValueChange<F>>,
+) -> Result<(), Stop>
     requires known { IsTree (chunk_rows (C.contents chunks.old) (stamp_of at)) }
     requires place { C.places chunks.old at }
     requires copies { (d : ℕ) → chunk_depth (C.contents chunks.old) (stamp_of at) ≡ Some d
-        → down.now.copies + d < 2 ^ 64 }
-    requires callable { CanMake (λ f. F.IsAlwaysCallable f) change }
+        → copies + d < 2 ^ 64 }
+    requires callable { CanBeAsked (λ f. F.IsAlwaysCallable f) asked.old }
     ensures grown { Grows C.contents C.places chunks.old chunks.new }
-    ensures reached { IfOk result (λ r. (u : Updates) × Makes (λ f x r. F.post f x r) change (finite.find
+    ensures reached { OnOk result ((u : Updates) × Asked (λ f x r. F.post f x r) asked.old (finite.find
         (slice_cmp nat_cmp) down.now.key.now (rows_or (chunk_rows (C.contents chunks.old) (stamp_of at)))) (Ok u)
-        × IsChunkEnd (C.contents chunks.new) (C.places chunks.new) down.now.copies down.now.as_trail (stamp_of at)
+        × IsChunkEnd (C.contents chunks.new) (C.places chunks.new) copies down.now.as_trail (stamp_of at)
         (chunk_depth (C.contents chunks.old) (stamp_of at))
-        (rows_or (chunk_rows (C.contents chunks.old) (stamp_of at))) down.now.key.now u r laying.new) }
-    ensures stopped { IfErr result (λ e. (e ≡ NoMemory) ⊎ C.stops e ⊎ Makes (λ f x r. F.post f x r) change (finite.find
-        (slice_cmp nat_cmp) down.now.key.now (rows_or (chunk_rows (C.contents chunks.old) (stamp_of at)))) (Err e)) }
+        (rows_or (chunk_rows (C.contents chunks.old) (stamp_of at))) down.now.key.now u laying.new.reached laying.new) }
+    ensures stopped { IfErr result (λ e. (e ≡ NoMemory) ⊎ C.stops e
+        ⊎ Asked (λ f x r. F.post f x r) asked.old (finite.find (slice_cmp nat_cmp) down.now.key.now
+        (rows_or (chunk_rows (C.contents chunks.old) (stamp_of at)))) (Err e)) }
 {
     let held = chunks.show(at)?;
     let here = ShownChunk {
         at,
         chunk: held.chunk(),
     };
-    let reached = change_in(chunks, here, down, laying, change);
+    let reached = change_in(chunks, here, down, copies, laying, asked);
     chunks.leave(held);
     reached
 }
@@ -388,34 +424,35 @@ fn change_in<C: Chunks, F: FnOnce(Option<Json>) -> Result<Update, Stop>>(
     chunks: &mut C,
     here: ShownChunk<'_>,
     down: &Down<'_>,
+    copies: usize,
     laying: &mut Laying,
-    change: ValueChange<F>,
-) -> Result<Reached, Stop>
+    asked: &mut Option<ValueChange<F>>,
+) -> Result<(), Stop>
     requires known { IsTree (chunk_rows (C.contents chunks.old) (stamp_of here.at)) }
     requires content { slice_get (C.contents chunks.old) (stamp_of here.at) ≡ Some (chunk_content here.chunk.now) }
     requires children { AreAll (C.places chunks.old) (chunk_children here.chunk.now) }
     requires copies { (d : ℕ) → chunk_depth (C.contents chunks.old) (stamp_of here.at) ≡ Some d
-        → down.now.copies + d < 2 ^ 64 }
-    requires callable { CanMake (λ f. F.IsAlwaysCallable f) change }
+        → copies + d < 2 ^ 64 }
+    requires callable { CanBeAsked (λ f. F.IsAlwaysCallable f) asked.old }
     ensures grown { Grows C.contents C.places chunks.old chunks.new }
-    ensures reached { IfOk result (λ r. (u : Updates) × Makes (λ f x r. F.post f x r) change (finite.find
+    ensures reached { OnOk result ((u : Updates) × Asked (λ f x r. F.post f x r) asked.old (finite.find
         (slice_cmp nat_cmp) down.now.key.now (rows_or (chunk_rows (C.contents chunks.old) (stamp_of here.entry.at))))
-        (Ok u) × IsChunkEnd (C.contents chunks.new) (C.places chunks.new) down.now.copies down.now.as_trail
+        (Ok u) × IsChunkEnd (C.contents chunks.new) (C.places chunks.new) copies down.now.as_trail
         (stamp_of here.entry.at)
         (chunk_depth (C.contents chunks.old) (stamp_of here.entry.at))
-        (rows_or (chunk_rows (C.contents chunks.old) (stamp_of here.entry.at))) down.now.key.now u r laying.new) }
-    ensures stopped { IfErr result (λ e. (e ≡ NoMemory) ⊎ C.stops e ⊎ Makes (λ f x r. F.post f x r) change (finite.find
-        (slice_cmp nat_cmp) down.now.key.now (rows_or (chunk_rows (C.contents chunks.old) (stamp_of here.entry.at))))
-        (Err e)) }
+        (rows_or (chunk_rows (C.contents chunks.old) (stamp_of here.entry.at))) down.now.key.now u
+        laying.new.reached laying.new) }
+    ensures stopped { IfErr result (λ e. (e ≡ NoMemory) ⊎ C.stops e
+        ⊎ Asked (λ f x r. F.post f x r) asked.old (finite.find (slice_cmp nat_cmp) down.now.key.now
+        (rows_or (chunk_rows (C.contents chunks.old) (stamp_of here.entry.at)))) (Err e)) }
 {
     match here.chunk {
-        Chunk::Leaf(leaf) => change_leaf(leaf, down, laying, change),
+        Chunk::Leaf(leaf) => change_leaf(leaf, down, copies, laying, asked),
         Chunk::Inner(inner) => {
             let place = place_for(inner.firsts().as_slice(), down.searched);
             let child = child_at(inner, place);
-            let deeper = down.below();
-            let below = change_at(chunks, child, &deeper, laying, change)?;
-            step_up(inner, place, down, below, laying)
+            change_at(chunks, child, down, copies + 1, laying, asked)?;
+            Ok(step_up(inner, place, down, copies, laying)?)
         }
     }
 }
@@ -423,11 +460,11 @@ fn change_in<C: Chunks, F: FnOnce(Option<Json>) -> Result<Update, Stop>>(
 impl Trail {
     /// The trail of new chunks.
     #[inline(always)]
-    pub(crate) fn of(laying: Laying) -> Trail
-        requires { (e : Ends) × (laying.end ≡ Some e) × IsTrail (reverse laying.steps.items) e }
-        ensures { (e : Ends) → laying.end ≡ Some e → result ≡ trail_seen (reverse laying.steps.items) e }
+    pub(crate) fn of(steps: Vec<Step>, end: Option<End>) -> Trail
+        requires { (e : Ends) × (end ≡ Some e) × IsTrail (reverse steps.items) e }
+        ensures { (e : Ends) → end ≡ Some e → result ≡ trail_seen (reverse steps.items) e }
     {
-        let Laying { mut steps, end } = laying;
+        let mut steps = steps;
         steps.reverse();
         Trail {
             steps,
