@@ -1,7 +1,7 @@
 //! New commits of a client group, drafted over whatever shows the nodes that are placed.
 //!
-//! A mutation extends the newest map by one run of its mutator (`run_on`, `add_local`). A pull that is applied patches
-//! the pulled map (`add_patched`), and runs each mutation that stays pending on what those before it left
+//! A mutation extends the newest map by one run of its mutator (`run_known`, `add_local`). A pull that is applied
+//! patches the pulled map (`add_patched`), and runs each mutation that stays pending on what those before it left
 //! (`run_pending`, `add_replayed`). All of it only reads what is placed, and writes what is new into a `Draft` behind
 //! it: so a refused one has changed no group. How a pull ends is `pull_outcome`.
 //!
@@ -45,6 +45,6 @@ pub use locals::{LastCommit, add_replayed, run_pending, tree_if_done};
 pub use looks::{TipLook, base_at, left_at, look_at};
 pub use mutators::{Has, Runs};
 pub use pulls::{add_patched, confirmed_after, pull_outcome};
-pub use runs::{Left, OwnRun, Replayed, Run, Setting, replay_on, run_on};
+pub use runs::{Left, OwnRun, Replayed, Run, Setting, replay_on, run_known};
 pub use telling::told_before_last;
 pub use tips::{NewLocal, Tip, add_closing, add_local, add_opening};

@@ -71,7 +71,8 @@ fn run_over<V: WriteView, M: Runs>(
     mutators.run_if_any(alloc, name, &mutation.args, mutation.reason, view)
 }
 
-fn run_known<C: Chunks + Drop, K: NamesContents, M: Runs>(
+/// Runs a mutation's mutator on a tree over nodes that are placed, for the mutation's reason, if the group has it.
+pub fn run_known<C: Chunks + Drop, K: NamesContents, M: Runs>(
     alloc: Global,
     chunks: C,
     tree: Tree,
@@ -95,7 +96,7 @@ fn run_known<C: Chunks + Drop, K: NamesContents, M: Runs>(
 }
 
 /// Runs a mutation's mutator on a tree, for the mutation's reason, if the group has it.
-pub fn run_on<'a, C: Chunks + Copy, K: NamesContents, M: Runs>(
+pub(crate) fn run_on<'a, C: Chunks + Copy, K: NamesContents, M: Runs>(
     setting: &Setting<'_, C, M>,
     draft: &'a Draft,
     tree: Tree,

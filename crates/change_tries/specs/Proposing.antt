@@ -66,6 +66,12 @@ MayAsk cs before (Mutated x) = (last_at cs (stamp_of before.at) x.client ≡ Som
 MayAsk cs before (Pulled ticket r) = Unit {0}
 MayAsk cs before Closed = Unit {0}
 
+-- it is no mutation
+abbrev pub IsOther : Change → Type 0
+IsOther (Mutated x) = ⊥
+IsOther (Pulled ticket r) = Unit {0}
+IsOther Closed = Unit {0}
+
 -- where a client's last id was found, after a call that asked for the change: for a mutation perhaps at another commit,
 -- by what is drawn now
 abbrev pub StaysFound : Contents → LastId → LastId → Change → Type 0

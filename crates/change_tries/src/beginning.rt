@@ -22,7 +22,7 @@ ghost use Rattle.change_drafts.specs.Running.{MayRun};
 ghost use Rattle.change_tries.specs.Missing.{IsStoreOrMemory, IsStoreRefusal, IsStop};
 ghost use Rattle.change_tries.specs.Places.{state_at};
 ghost use Rattle.change_tries.specs.Proposing.{IsDraftSpot, MayAsk, StaysFound, asked_reply, change_asked};
-ghost use Rattle.change_tries.specs.Runs.{AsksNew, HasNew, IsFirstStep, IsNewMutation, IsOnLeft, MayStep};
+ghost use Rattle.change_tries.specs.Runs.{AsksNew, HasNew, IsFirstStep, IsNext, IsOnLeft, MayStep};
 ghost use Rattle.change_tries.specs.Runs.{with_draft, with_more};
 
 use crate::ending::{end_new, finish, go_on};
@@ -31,8 +31,8 @@ use crate::proposing::{DraftSpot, check_next};
 use crate::runs::{AskedRun, BoxedRun, Chain, NextStep, Replaying};
 use crate::views::last_known;
 use change_drafts::{
-    OwnRun, RunMap, Runs, Setting, add_patched, confirmed_after, left_at, pull_outcome, run_on,
-    run_pending, told_before_last,
+    OwnRun, RunMap, Runs, Setting, Tip, add_patched, confirmed_after, left_at, pull_outcome,
+    run_known, run_pending, told_before_last,
 };
 use chunk_slots::Slots;
 use commit_graph::{Base, LastId, SoughtId, StoreNodes};
@@ -49,53 +49,49 @@ pub(crate) struct CaughtUp {
     pub(crate) is_far: bool,
 }
 
-// The commit at which a client's last id is found, which a mutation has to follow: the one where the call stands,
+// The commit at which a mutation's client's last id is found, which it has to follow: the one where the call stands,
 // unless it is another id there.
 pub(crate) fn catch_up<M: Means, S: Slots<M>>(
     at: &At<'_, M, S>,
-    change: &Change,
+    mutation: &Mutation,
     found: LastId,
 ) -> Result<CaughtUp, Refusal>
-    requires asks { MayAsk (drawn at.now.mark.log) found change.now }
+    requires asks { MayAsk (drawn at.now.mark.log) found (changed.Mutated mutation.now) }
     ensures kept { IfOk result (λ caught. StaysFound (drawn at.now.mark.log) found
-        (record { at = caught.at; id = found.id }) change.now) }
+        (record { at = caught.at; id = found.id }) (changed.Mutated mutation.now)) }
     ensures err { IfErr result (IsStoreRefusal S.reused) }
 {
-    let still = CaughtUp {
-        at: found.at,
-        is_far: false,
-    };
-    let Change::Mutated(mutation) = change else {
-        return Ok(still);
-    };
     let SoughtId { id, is_far } = last_known(at, &mutation.client, Some(found))?;
     if id != found.id {
-        return Ok(still);
+        return Ok(CaughtUp {
+            at: found.at,
+            is_far: false,
+        });
     }
     let there = at.commit;
     Ok(CaughtUp { at: there, is_far })
 }
 
-// The group's run of a new mutation at the tip, if it has the mutator.
+// The group's run of a new mutation on the map that is read at the tip, if it has the mutator.
 fn run_new<'a, M: Runs, S: Slots<M>>(
     at: &At<'a, M, S>,
-    chain: &Chain,
+    tip: Tip,
     mutation: &Mutation,
 ) -> Result<OwnRun, Refusal>
-    requires behind { chain.now.draft.first ≡ length (drawn at.now.mark.log) }
-    requires tip { IsTip M.means (with_draft (drawn at.now.mark.log) chain.now) chain.now.tip (state_at at.now) }
-    ensures ran { IfOk result (MayRun (with_draft (drawn at.now.mark.log) chain.now) (M.has mutation.now.name)
+    requires tip { IsTip M.means (drawn at.now.mark.log) tip (state_at at.now) }
+    ensures ran { IfOk result (MayRun (drawn at.now.mark.log) (M.has mutation.now.name)
         (meaning_of M.means mutation.now (view_of M.means (state_at at.now))) (view_of M.means (state_at at.now))) }
     ensures err { IfErr result (IsStoreOrMemory S.reused) }
 {
     let group = at.group;
-    let setting = Setting {
-        alloc: group.shared.alloc,
-        chunks: at.nodes(),
-        mutators: &group.mutators,
-    };
-    let tree = Tree::at(chain.tip.root);
-    run_on::<StoreNodes<'a, M, S>, Brand, M>(&setting, &chain.draft, tree, mutation)
+    let tree = Tree::at(tip.root);
+    run_known::<StoreNodes<'a, M, S>, Brand, M>(
+        group.shared.alloc,
+        at.nodes(),
+        tree,
+        &group.mutators,
+        mutation,
+    )
 }
 
 // The run of a new mutation on a map, which is asked for.
@@ -103,39 +99,46 @@ fn run_new<'a, M: Runs, S: Slots<M>>(
 fn asked_new(
     alloc: Global,
     chain: Chain,
-    mutation: Mutation,
+    mutation: &Mutation,
     tree: Tree,
 ) -> Result<NextStep, AllocError>
-    ensures step { IfOk result (AsksNew chain mutation tree) }
+    ensures step { IfOk result (AsksNew chain mutation.now tree) }
 {
     let run = AskedRun {
         chain,
         ran: Vec::new(alloc),
-        mutation,
+        mutation: mutation.clone()?,
         map: RunMap::new(alloc, tree),
         behind: Vec::new(alloc),
     };
     Ok(NextStep::Run(BoxedRun::new(alloc, run)?))
 }
 
-// A mutation that is its client's next one: it is run by the group, or its run is asked for.
+// A mutation that is its client's next one: it is run by the group, or its run is asked for. It has a frame of its own,
+// since its temporaries would be cleared in each turn of the loop of tries.
+#[inline(never)]
 fn begin_next<M: Runs, S: Slots<M>>(
     at: &At<'_, M, S>,
-    chain: Chain,
-    mutation: Mutation,
+    spot: DraftSpot,
+    mutation: &Mutation,
     last: u64,
 ) -> Result<NextStep, Refusal>
-    requires new { IsNewMutation M.means (drawn at.now.mark.log) (state_at at.now) last mutation chain }
+    requires spot { IsDraftSpot M.means at.now spot.tip spot.first }
+    requires next { IsNext (state_at at.now) last mutation.now }
     ensures step { IfOk result (MayStep M.has M.means (drawn at.now.mark.log) at.now.commit (state_at at.now) last
-        (changed.Mutated mutation)) }
-    ensures err { IfErr result (IsUnproposed (IsStop S.reused) (change_asked (changed.Mutated mutation))
-        (asked_reply M.means (state_at at.now) last (changed.Mutated mutation))) }
-    ensures late { IfErr result (λ e. e ≡ refusal.Stamps → IsLate chain.draft.first) }
+        (changed.Mutated mutation.now)) }
+    ensures err { IfErr result (IsUnproposed (IsStop S.reused) (change_asked (changed.Mutated mutation.now))
+        (asked_reply M.means (state_at at.now) last (changed.Mutated mutation.now))) }
+    ensures late { IfErr result (λ e. e ≡ refusal.Stamps → IsLate spot.first) }
 {
+    let DraftSpot { tip, first, tells } = spot;
     let group = at.group;
     let alloc = group.shared.alloc;
-    match run_new(at, &chain, &mutation)? {
-        OwnRun::Ran(run) => end_new(at, chain, mutation, last, run),
+    let own = run_new(at, tip, mutation)?;
+    let draft = Draft::new(alloc, first);
+    let chain = Chain { draft, tip, tells };
+    match own {
+        OwnRun::Ran(run) => end_new(at, chain, mutation.clone()?, last, run),
         OwnRun::Lacks(tree) => Ok(asked_new(alloc, chain, mutation, tree)?),
     }
 }
@@ -157,11 +160,7 @@ pub(crate) fn begin_mutation<M: Runs, S: Slots<M>>(
     ensures late { IfErr result (λ e. e ≡ refusal.Stamps → IsLate spot.first) }
 {
     check_next(at, mutation, before)?;
-    let again = mutation.clone()?;
-    let DraftSpot { tip, first, tells } = spot;
-    let group = at.group;
-    let draft = Draft::new(group.shared.alloc, first);
-    begin_next(at, Chain { draft, tip, tells }, again, before.id)
+    begin_next(at, spot, mutation, before.id)
 }
 
 // The pulled map after the patch, drafted with its snapshot.

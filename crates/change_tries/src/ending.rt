@@ -42,6 +42,7 @@ use reader_claims::Kind;
 use std::marker::Brand;
 
 /// The end of the run of a new mutation: refused where it wasn't done, and else drafted whole.
+#[inline(always)]
 pub(crate) fn end_new<M: Runs, S: Slots<M>>(
     at: &At<'_, M, S>,
     chain: Chain,

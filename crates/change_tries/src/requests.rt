@@ -7,21 +7,20 @@ ghost use Rattle.map_chunks.specs.Drafts.{IsLate};
 ghost use Rattle.linearized.specs.Trying.{IsUnproposed};
 ghost use Rattle.change_tries.specs.Missing.{IsStop};
 ghost use Rattle.change_tries.specs.Places.{state_at};
-ghost use Rattle.change_tries.specs.Proposing.{IsDraftSpot, MayAsk, StaysFound, asked_reply, change_asked};
+ghost use Rattle.change_tries.specs.Proposing.{IsDraftSpot, IsOther, MayAsk, StaysFound, asked_reply, change_asked};
 ghost use Rattle.change_tries.specs.Runs.{IsFirstStep, MayStep};
 
 use crate::beginning::{begin_mutation, begin_outcome, catch_up};
 use crate::places::At;
-use crate::proposing::{ChangeCall, DraftSpot, Request, propose_closing};
+use crate::proposing::{DraftSpot, propose_closing};
 use crate::runs::NextStep;
 use change_drafts::{Runs, base_at, look_at};
 use chunk_slots::Slots;
 use commit_graph::{LastId, StoreNodes};
-use group_history::{Change, Cookie, PullOk, Refusal};
+use group_history::{Change, Cookie, Mutation, PullOk, Refusal};
 use std::marker::Brand;
 
 // What the pull asks for first, at an open group.
-#[inline(never)]
 fn begin_pull<'a, M: Runs, S: Slots<M>>(
     at: &At<'a, M, S>,
     spot: DraftSpot,
@@ -43,7 +42,6 @@ fn begin_pull<'a, M: Runs, S: Slots<M>>(
 }
 
 // The closing of an open group asks for no run.
-#[inline(never)]
 fn begin_closing<M: Runs, S: Slots<M>>(
     at: &At<'_, M, S>,
     spot: DraftSpot,
@@ -70,26 +68,23 @@ fn begin_closing<M: Runs, S: Slots<M>>(
     }
 }
 
-// What the change asks for first, at an open group.
-fn begin_open<M: Runs, S: Slots<M>>(
+// What a change asks for first that is no mutation, at an open group.
+fn begin_other_there<M: Runs, S: Slots<M>>(
     at: &At<'_, M, S>,
     spot: DraftSpot,
-    request: &Request<'_>,
+    change: &Change,
 ) -> Result<NextStep, Refusal>
+    requires other { IsOther change.now }
     requires spot { IsDraftSpot M.means at.now spot.tip spot.first }
-    requires asks { MayAsk (drawn at.now.mark.log) request.now.before request.now.call.change.now }
-    ensures step { IfOk result (MayStep M.has M.means (drawn at.now.mark.log) at.now.commit (state_at at.now)
-        request.now.before.id request.now.call.change.now) }
-    ensures err { IfErr result (IsUnproposed (IsStop S.reused) (change_asked request.now.call.change.now)
-        (asked_reply M.means (state_at at.now) request.now.before.id request.now.call.change.now)) }
-    ensures first { IfOk result (IsFirstStep M.has (state_at at.now) request.now.call.change.now) }
+    ensures step { (last : ℕ) → IfOk result
+        (MayStep M.has M.means (drawn at.now.mark.log) at.now.commit (state_at at.now) last change.now) }
+    ensures err { (last : ℕ) → IfErr result (IsUnproposed (IsStop S.reused) (change_asked change.now)
+        (asked_reply M.means (state_at at.now) last change.now)) }
+    ensures first { IfOk result (IsFirstStep M.has (state_at at.now) change.now) }
     ensures late { IfErr result (λ e. e ≡ refusal.Stamps → IsLate spot.first) }
 {
-    let Request { call, before } = *request;
-    match call.change {
-        Change::Mutated(mutation) => {
-            return begin_mutation(at, spot, mutation, before);
-        }
+    match change {
+        Change::Mutated(_) => unreachable!(),
         Change::Pulled(ticket, pull) => {
             return begin_pull(at, spot, ticket, pull);
         }
@@ -99,20 +94,21 @@ fn begin_open<M: Runs, S: Slots<M>>(
     }
 }
 
-// What the change asks for first, drafted under stamps from `first` on.
-fn begin_request<'a, M: Runs, S: Slots<M>>(
+// What a change asks for first that is no mutation, drafted under stamps from `first` on. It is a function of its own,
+// so a mutation has none of its temporaries.
+#[inline(never)]
+fn begin_other<'a, M: Runs, S: Slots<M>>(
     at: &At<'a, M, S>,
     first: u64,
-    request: &Request<'_>,
-    tells: bool,
+    change: &Change,
 ) -> Result<NextStep, Refusal>
-    requires asks { MayAsk (drawn at.now.mark.log) request.now.before request.now.call.change.now }
+    requires other { IsOther change.now }
     requires first { first ≡ next_stamp at.now.mark.log }
-    ensures step { IfOk result (MayStep M.has M.means (drawn at.now.mark.log) at.now.commit (state_at at.now)
-        request.now.before.id request.now.call.change.now) }
-    ensures err { IfErr result (IsUnproposed (IsStop S.reused) (change_asked request.now.call.change.now)
-        (asked_reply M.means (state_at at.now) request.now.before.id request.now.call.change.now)) }
-    ensures first { IfOk result (IsFirstStep M.has (state_at at.now) request.now.call.change.now) }
+    ensures step { (last : ℕ) → IfOk result
+        (MayStep M.has M.means (drawn at.now.mark.log) at.now.commit (state_at at.now) last change.now) }
+    ensures err { (last : ℕ) → IfErr result (IsUnproposed (IsStop S.reused) (change_asked change.now)
+        (asked_reply M.means (state_at at.now) last change.now)) }
+    ensures first { IfOk result (IsFirstStep M.has (state_at at.now) change.now) }
     ensures late { IfErr result (λ e. e ≡ refusal.Stamps → IsLate first) }
 {
     let look = look_at::<StoreNodes<'a, M, S>, Brand>(at.nodes(), at.commit)?;
@@ -120,7 +116,58 @@ fn begin_request<'a, M: Runs, S: Slots<M>>(
         return Err(Refusal::Closed);
     }
     let tip = look.tip;
-    begin_open(at, DraftSpot { tip, first, tells }, request)
+    let tells = false;
+    begin_other_there(at, DraftSpot { tip, first, tells }, change)
+}
+
+// What a mutation asks for first, drafted under stamps from `first` on.
+fn begin_mutated_there<'a, M: Runs, S: Slots<M>>(
+    at: &At<'a, M, S>,
+    first: u64,
+    mutation: &Mutation,
+    before: LastId,
+    tells: bool,
+) -> Result<NextStep, Refusal>
+    requires asks { MayAsk (drawn at.now.mark.log) before (changed.Mutated mutation.now) }
+    requires first { first ≡ next_stamp at.now.mark.log }
+    ensures step { IfOk result (MayStep M.has M.means (drawn at.now.mark.log) at.now.commit (state_at at.now) before.id
+        (changed.Mutated mutation.now)) }
+    ensures err { IfErr result (IsUnproposed (IsStop S.reused) (change_asked (changed.Mutated mutation.now))
+        (asked_reply M.means (state_at at.now) before.id (changed.Mutated mutation.now))) }
+    ensures first { IfOk result (IsFirstStep M.has (state_at at.now) (changed.Mutated mutation.now)) }
+    ensures late { IfErr result (λ e. e ≡ refusal.Stamps → IsLate first) }
+{
+    let look = look_at::<StoreNodes<'a, M, S>, Brand>(at.nodes(), at.commit)?;
+    if look.closed {
+        return Err(Refusal::Closed);
+    }
+    let tip = look.tip;
+    begin_mutation(at, DraftSpot { tip, first, tells }, mutation, before)
+}
+
+// The same, where its client's last id was found before. Where it was found by the way stays known, also where the
+// mutation is refused.
+fn begin_mutated<M: Runs, S: Slots<M>>(
+    at: &At<'_, M, S>,
+    first: u64,
+    mutation: &Mutation,
+    found: &mut LastId,
+) -> Result<NextStep, Refusal>
+    requires asks { MayAsk (drawn at.now.mark.log) found.old (changed.Mutated mutation.now) }
+    requires first { first ≡ next_stamp at.now.mark.log }
+    ensures step { IfOk result (MayStep M.has M.means (drawn at.now.mark.log) at.now.commit (state_at at.now)
+        found.old.id (changed.Mutated mutation.now)) }
+    ensures err { IfErr result (IsUnproposed (IsStop S.reused) (change_asked (changed.Mutated mutation.now))
+        (asked_reply M.means (state_at at.now) found.old.id (changed.Mutated mutation.now))) }
+    ensures first { IfOk result (IsFirstStep M.has (state_at at.now) (changed.Mutated mutation.now)) }
+    ensures late { IfErr result (λ e. e ≡ refusal.Stamps → IsLate first) }
+    ensures kept { StaysFound (drawn at.now.mark.log) found.old found.new (changed.Mutated mutation.now) }
+{
+    let LastId { id, .. } = *found;
+    let there = catch_up(at, mutation, *found)?;
+    let before = LastId { at: there.at, id };
+    *found = before;
+    begin_mutated_there(at, first, mutation, before, there.is_far)
 }
 
 /// What the change asks for first, drafted under stamps from `first` on. Where its client's last id was found by the
@@ -128,30 +175,21 @@ fn begin_request<'a, M: Runs, S: Slots<M>>(
 pub(crate) fn begin<M: Runs, S: Slots<M>>(
     at: &At<'_, M, S>,
     first: u64,
-    call: &ChangeCall<'_>,
+    change: &Change,
     found: &mut LastId,
 ) -> Result<NextStep, Refusal>
-    requires asks { MayAsk (drawn at.now.mark.log) found.old call.now.change.now }
+    requires asks { MayAsk (drawn at.now.mark.log) found.old change.now }
     requires first { first ≡ next_stamp at.now.mark.log }
     ensures step { IfOk result (MayStep M.has M.means (drawn at.now.mark.log) at.now.commit (state_at at.now)
-        found.old.id call.now.change.now) }
-    ensures err { IfErr result (IsUnproposed (IsStop S.reused) (change_asked call.now.change.now)
-        (asked_reply M.means (state_at at.now) found.old.id call.now.change.now)) }
-    ensures first { IfOk result (IsFirstStep M.has (state_at at.now) call.now.change.now) }
+        found.old.id change.now) }
+    ensures err { IfErr result (IsUnproposed (IsStop S.reused) (change_asked change.now)
+        (asked_reply M.means (state_at at.now) found.old.id change.now)) }
+    ensures first { IfOk result (IsFirstStep M.has (state_at at.now) change.now) }
     ensures late { IfErr result (λ e. e ≡ refusal.Stamps → IsLate first) }
-    ensures kept { StaysFound (drawn at.now.mark.log) found.old found.new call.now.change.now }
+    ensures kept { StaysFound (drawn at.now.mark.log) found.old found.new change.now }
 {
-    let LastId { id, .. } = *found;
-    let there = catch_up(at, call.change, *found)?;
-    let before = LastId { at: there.at, id };
-    *found = before;
-    begin_request(
-        at,
-        first,
-        &Request {
-            call: *call,
-            before,
-        },
-        there.is_far,
-    )
+    match change {
+        Change::Mutated(mutation) => begin_mutated(at, first, mutation, found),
+        Change::Pulled(_, _) | Change::Closed => Ok(begin_other(at, first, change)?),
+    }
 }

@@ -268,7 +268,7 @@ fn begin_there<M: Runs, S: Store<M>>(
 {
     let LastId { id, .. } = *found;
     let at = At::new(group, seat, &arrival.seen, arrival.base, call.tries);
-    let step = begin(&at, arrival.first, call, found);
+    let step = begin(&at, arrival.first, call.change, found);
     drop(at);
     let before = LastId { at: found.at, id };
     let request = Request {

@@ -111,26 +111,25 @@ impl<M: Means, S: Store<M>> Client<M, S> {
 
 impl<M: Mutators, S: Store<M>> Client<M, S> {
     // Makes a change, and answers the commit where it stands: none where there is nothing to change.
-    fn change(&mut self, change: Change, tries: u32) -> Result<Option<Ref>, Refusal>
-        requires next { AsksNext self.old.id self.old.last change }
+    fn change(&mut self, change: &Change, tries: u32) -> Result<Option<Ref>, Refusal>
+        requires next { AsksNext self.old.id self.old.last change.now }
         ensures answer { IsLinearized M.means tries self.old.seat.mark self.new.seat.mark (map_ok is_made result)
-            (change_asked change)
-            (λ s. asked_reply M.means s self.old.last change) }
-        ensures found { IfOk result (λ made. IfSome made (λ at. HasLast (drawn self.new.seat.mark.log) at change)) }
+            (change_asked change.now)
+            (λ s. asked_reply M.means s self.old.last change.now) }
+        ensures found { IfOk result (λ made. IfSome made (λ at. HasLast (drawn self.new.seat.mark.log) at change.now)) }
         ensures acts { AfterChange S.reused self.old self.new × (self.new.last ≡ self.old.last) }
-        ensures cause { IfErr result (HasCause M.means S.reused self.old.last (Some change)
+        ensures cause { IfErr result (HasCause M.means S.reused self.old.last (Some change.now)
             self.old.seat self.new.seat) }
-        ensures frees { S.reused → Frees (Some change) (spared result) self.old.seat self.new.seat
-            (change_asked change (map_ok is_made result)) }
+        ensures frees { S.reused → Frees (Some change.now) (spared result) self.old.seat self.new.seat
+            (change_asked change.now (map_ok is_made result)) }
     {
         let mut found = LastId {
             at: self.found,
             id: self.last,
         };
         self.pinned = false;
-        let made = make_change::<M, S>(&self.group, &mut self.seat, &change, &mut found, tries);
+        let made = make_change::<M, S>(&self.group, &mut self.seat, change, &mut found, tries);
         self.found = found.at;
-        drop(change);
         made
     }
 
@@ -168,7 +167,8 @@ impl<M: Mutators, S: Store<M>> Client<M, S> {
                 return self.refuse(Refusal::from(e));
             }
         };
-        let made = self.change(Change::Mutated(mutation), tries);
+        let change = Change::Mutated(mutation);
+        let made = self.change(&change, tries);
         self.keep_next(made)
     }
 
@@ -184,7 +184,12 @@ impl<M: Mutators, S: Store<M>> Client<M, S> {
             (change_applied ticket.now pull result) }
     {
         match ticket.clone() {
-            Ok(cookie) => ended_as(self.change(Change::Pulled(cookie, pull), tries)),
+            Ok(cookie) => {
+                let change = Change::Pulled(cookie, pull);
+                let made = self.change(&change, tries);
+                drop(change);
+                ended_as(made)
+            }
             Err(e) => {
                 drop(pull);
                 self.refuse(Refusal::from(e))
@@ -203,7 +208,7 @@ impl<M: Mutators, S: Store<M>> Client<M, S> {
         ensures frees { S.reused → Frees (Some Closed) (spared result) self.old.seat self.new.seat
             (change_closing result) }
     {
-        match self.change(Change::Closed, tries) {
+        match self.change(&Change::Closed, tries) {
             Ok(_) => Err(Refusal::StateNotFound),
             Err(e) => Err(e),
         }

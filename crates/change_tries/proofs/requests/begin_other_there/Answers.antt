@@ -7,33 +7,31 @@ use Rattle.change_tries.specs.Missing.{IsStop}
 use Rattle.change_tries.specs.Places.{state_at}
 use Rattle.change_tries.specs.Proposing.{asked_reply, change_asked}
 use Rattle.change_tries.specs.Runs.{MayStep}
-use Rattle.change_tries.proofs.requests.begin_open.Goals as goal
+use Rattle.change_tries.proofs.requests.begin_other_there.Goals as goal
 
 pub returns-in-Pulled-clause-step : goal.returns-in-Pulled-clause-step
-returns-in-Pulled-clause-step g c =
-    let p = c.args.at.now in let last = c.args.request.now.before.id in
+returns-in-Pulled-clause-step g c last =
+    let p = c.args.at.now in
     subst (λ (w : Change). IfOk c.begin_pull.result
     (MayStep g.M.Has.has g.M.Means.means (drawn p.mark.log) p.commit (state_at p) last w)) (sym c.in-Pulled.is)
     (c.begin_pull.ensures.step last)
 
 pub returns-in-Pulled-clause-err : goal.returns-in-Pulled-clause-err
-returns-in-Pulled-clause-err g c =
-    let last = c.args.request.now.before.id in
+returns-in-Pulled-clause-err g c last =
     subst (λ (w : Change). IfErr c.begin_pull.result
     (IsUnproposed (IsStop g.S.Slots.reused) (change_asked w)
     (asked_reply g.M.Means.means (state_at c.args.at.now) last w))) (sym c.in-Pulled.is)
     (c.begin_pull.ensures.err last)
 
 pub returns-in-Closed-clause-step : goal.returns-in-Closed-clause-step
-returns-in-Closed-clause-step g c =
-    let p = c.args.at.now in let last = c.args.request.now.before.id in
+returns-in-Closed-clause-step g c last =
+    let p = c.args.at.now in
     subst (λ (w : Change). IfOk c.begin_closing.result
     (MayStep g.M.Has.has g.M.Means.means (drawn p.mark.log) p.commit (state_at p) last w)) (sym c.in-Closed.is)
     (c.begin_closing.ensures.step last)
 
 pub returns-in-Closed-clause-err : goal.returns-in-Closed-clause-err
-returns-in-Closed-clause-err g c =
-    let last = c.args.request.now.before.id in
+returns-in-Closed-clause-err g c last =
     subst (λ (w : Change). IfErr c.begin_closing.result
     (IsUnproposed (IsStop g.S.Slots.reused) (change_asked w)
     (asked_reply g.M.Means.means (state_at c.args.at.now) last w))) (sym c.in-Closed.is)
