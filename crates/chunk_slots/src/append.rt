@@ -236,6 +236,8 @@ impl<R: Wait + Sync + Drop, M: Means> Store<M> for Append<R, M> {
         Ok(stamp as u32)
     }
 
+    fn begin_at(&self, _seat: &mut NoClaims, _slot: u32) {}
+
     fn take_slot(&self, _seat: &mut NoClaims, _kind: Kind) -> Option<u32>
         ensures zero { result ≡ Some 0 }
     {

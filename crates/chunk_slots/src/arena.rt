@@ -213,6 +213,10 @@ impl<M: Means> Store<M> for Arena<M> {
         self.fill(slot, Placed::new(stamp, node, mark), tries)
     }
 
+    fn begin_at(&self, seat: &mut ArenaSeat, slot: u32) {
+        seat.begin_at(slot);
+    }
+
     fn take_slot(&self, seat: &mut ArenaSeat, kind: Kind) -> Option<u32> {
         seat.take(&self.claims, kind)
     }

@@ -61,6 +61,12 @@ pub(crate) fn seat_all(
 }
 
 impl ArenaSeat {
+    pub(crate) fn begin_at(&mut self, slot: u32)
+        ensures { self.new ≡ self.old }
+    {
+        self.seat.begin_at(slot);
+    }
+
     #[inline(always)]
     pub(crate) fn take(&mut self, claims: &Claims, kind: Kind) -> Option<u32>
         requires { self.old.table ≡ claims.now }

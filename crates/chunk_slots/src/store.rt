@@ -169,6 +169,10 @@ pub trait Store<M: Means>: Slots<M> {
         ensures err { IfErr result (λ e. (e ≡ refusal.NoMemory) ⊎ (Self.reused × (e ≡ refusal.Busy))
             ⊎ ((Self.reused → ⊥) × (e ≡ refusal.Full) × (max_slots ≤ stamp))) };
 
+    /// The next slot is sought from this one on, unless the seat retired one since.
+    fn begin_at(&self, seat: &mut Self::Seat, slot: u32)
+        ensures seat { seat.new ≡ seat.old };
+
     /// Takes a slot to place a node in. A reserved one is taken only where no ordinary one was free or
     /// could be given, but for those that other seats were quicker to take: by a pass of this call, or
     /// by one since which the seat did nothing but take slots. `None` comes after a whole pass.

@@ -231,7 +231,7 @@ pub struct SoughtId {
 }
 
 /// How many commits a walk for a last id may look at that isn't far.
-pub const NEAR_COMMITS: u32 = 8;
+pub const NEAR_COMMITS: u32 = 16;
 
 /// How many stamps a head may be ahead of the client's own last commit that isn't far: some of each commit's nodes.
 const NEAR_STAMPS: u64 = 64;

@@ -28,7 +28,7 @@ use crate::retiring::retire_all;
 use crate::taking::{pop, take_all, withdraw_all};
 use chunk_slots::{Slots, Store};
 use commit_graph::{ClientSeat, Shared};
-use group_history::{Means, Node, Ref, Refusal};
+use group_history::{CommitKind, Means, Node, Ref, Refusal};
 use head_word::Mark;
 use map_chunks::Draft;
 use reader_claims::Kind;
@@ -296,6 +296,20 @@ fn place_taken<M: Means, S: Store<M>>(
     }
 }
 
+/// Slots are sought from that of the placed commit below the draft's on: it was placed last, by whichever seat, so what
+/// lies there is in the processors' caches.
+fn begin_at_basis<M: Means, S: Store<M>>(store: &S, seat: &mut S::Seat, draft: &Draft)
+    ensures seat { seat.new ≡ seat.old }
+{
+    if let Some(Node::Commit(commit)) = draft.nodes().last() {
+        if let CommitKind::Over(over) = &commit.as_commit().kind {
+            if over.basis.stamp() < draft.first() {
+                store.begin_at(seat, over.basis.slot());
+            }
+        }
+    }
+}
+
 /// Places a draft: takes a slot for each of its nodes, draws their stamps, and puts each node into a slot, which is
 /// settled then, children before parents. Answers the references under which the nodes lie, in order. Where other seats
 /// draw stamps meanwhile it draws again, `tries` times and once at least.
@@ -342,6 +356,7 @@ pub fn place_draft<M: Means, S: Store<M>>(
         ⊎ ((e ≡ refusal.Moved) ⊎ ((e ≡ refusal.Stamps) ⊎ ((e ≡ refusal.Full) ⊎ (S.reused × (e ≡ refusal.Busy)))))) }
 {
     let count = draft.nodes().len();
+    begin_at_basis::<M, S>(&shared.store, &mut seat.slots, &draft);
     let slots = take_all::<M, S>(shared.alloc, &shared.store, &mut seat.slots, kind, count)?;
     place_taken::<M, S>(shared, seat, draft, slots, tries)
 }

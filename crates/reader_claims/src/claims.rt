@@ -108,6 +108,13 @@ impl ClaimSeat {
         self.retired.unwrap_or(self.last)
     }
 
+    /// The next slot is sought from here on, unless one was retired since.
+    pub fn begin_at(&mut self, slot: u32)
+        ensures { self.new ≡ self.old }
+    {
+        self.last = slot;
+    }
+
     fn found(&mut self, slot: u32, passed: bool)
         requires { passed ≡ true → ∥ FoundNone self.old.view (first_reserved self.old.table.sizes) ∥₁ }
         ensures { self.new ≡ self.old }

@@ -241,8 +241,8 @@ fn looks_for_ids(alloc: Global, count: u64) -> Result<(u64, u64), Refusal> {
 #[test]
 fn the_last_of_many_replayed_commits_tells_ids(rt: HostRuntime) -> Result<(), Refusal> {
     // Each commit and the snapshot; the newest one.
-    assert_eq!(rt; looks_for_ids(rt.alloc(), 8)?, (9, 8));
-    assert_eq!(rt; looks_for_ids(rt.alloc(), 9)?, (1, 9));
+    assert_eq!(rt; looks_for_ids(rt.alloc(), 16)?, (17, 16));
+    assert_eq!(rt; looks_for_ids(rt.alloc(), 17)?, (1, 17));
     Ok(())
 }
 

@@ -152,6 +152,10 @@ impl<M: Means, S: Store<M> + Drop, H: Steps + Drop> Store<M> for Gated<S, H> {
         placed
     }
 
+    fn begin_at(&self, seat: &mut GatedSeat<S::Seat>, slot: u32) {
+        self.store.begin_at(&mut seat.seat, slot);
+    }
+
     fn take_slot(&self, seat: &mut GatedSeat<S::Seat>, kind: Kind) -> Option<u32> {
         self.gate.before(seat.number, StoreCall::TakeSlot);
         let taken = self.store.take_slot(&mut seat.seat, kind);

@@ -11,7 +11,9 @@ use Rattle.commit_publishing.proofs.placing.place_draft.Goals as goal
 
 pub returns-in_err-slots-clause-given : goal.returns-in_err-slots-clause-given
 returns-in_err-slots-clause-given g c r =
-    let (back, few, low, did) = c.in_err-slots.ensures.given r in
+    let (back, few, low, made) = c.in_err-slots.ensures.given r in
+    let did = subst (λ s. (g.S.Slots.view c.take_all.new.seat).deeds ≡ draft_deeds [] back (g.S.Slots.view s).deeds)
+    c.begin_at_basis.ensures.seat made in
     let sizes = c.args.shared.now.table.sizes in
     let end = kind_end sizes c.args.kind in
     on_err c.from_residual.result (gives_unplaced sizes.slots end (length c.args.draft.nodes) c.args.seat.now.view.deeds
@@ -35,7 +37,9 @@ returns-clause-given g c r =
     let low = subst (λ (z : GroupId). AreLower (kind_end z.table.sizes c.args.kind) c.in_ok-slots.slots.items)
     c.shared.view_is (c.in_ok-slots.ensures.within r) in
     on_err_then c.place_taken.result
-    (c.place_taken.ensures.given r v.deeds end (took.1 ∙ ap (λ (s : SeatState). map deed.took
-    (g.S.Slots.view c.take_all.new.seat).taken ++ s.view.deeds) c.seat.view_is) low)
+    (c.place_taken.ensures.given r v.deeds end (took.1 ∙ ap (λ s. map deed.took
+    (g.S.Slots.view c.take_all.new.seat).taken ++ (g.S.Slots.view s).deeds) c.begin_at_basis.ensures.seat
+    ∙ ap (λ (s : SeatState). map deed.took (g.S.Slots.view c.take_all.new.seat).taken ++ s.view.deeds) c.seat.view_is)
+    low)
     (gives_as sizes.slots end (length c.args.draft.nodes) v.deeds _ c.args.seat.now c.place_taken.new.seat
     (ap (λ (s : SeatState). s.mark) c.seat.view_is))
