@@ -1,7 +1,8 @@
 -- Where on a trail a key belongs.
 use Rattle.std.proofs.Common.{◌≡◌, ◌≢◌, ◌<◌, ℕ, zero, suc, slice_get, List, [], ◌∷◌, Option, Some, None, length}
-use Rattle.std.proofs.Common.{get_or, true, false, true≢false, refl, sym, ap}
+use Rattle.std.proofs.Common.{get_or, true, false, true≢false, refl, reverse, sym, ap}
 use Rattle.std.proofs.Common.{◌∙◌, subst, arith, nat_cmp}
+use Rattle.std.proofs.lemmas.List.{length-reverse}
 use Rattle.std.specs.Arc.{arc_value}
 use Rattle.std.specs.List.{Contains}
 use Rattle.std.specs.Prelude.{◌==◌}
@@ -26,7 +27,7 @@ use Rattle.map_nodes.proofs.NodeLemmas.{down-find, down_own, down_placed, kid_ro
 use Rattle.map_nodes.proofs.TrailLemmas.{here_own, here_placed, kid_of, step-pairs, step_down}
 use Rattle.map_nodes.specs.Inside.Freezing.{child_places, kids_places}
 use Rattle.map_nodes.specs.Inside.Spots.{IsSpot}
-use Rattle.map_nodes.specs.Trails.{step_kids, step_seen, trail_seen, IsStep, IsTrail}
+use Rattle.map_nodes.specs.Trails.{step_kids, step_seen, steps_seen, trail_seen, AreSteps, IsStep, IsTrail}
 use Rattle.map_nodes.specs.declared.nodes.OwnChild.{OwnChild}
 use Rattle.map_nodes.specs.declared.nodes.OwnChild.TheVariants.{Placed, Own}
 use Rattle.map_nodes.specs.declared.nodes.trails.End.{End}
@@ -130,12 +131,16 @@ is_zero : (n : ℕ) → (n == 0) ≡ true → n ≡ 0
 is_zero n q = grind (arith, nat_tests)
 
 -- a trail of which only the leaf is left, and another one
-pub none_end : (p : Contents) (ss : List Step) (e : End) (rows : Rows) → IsTrail ss e → (length ss == 0) ≡ true
-    → shown p (trail_seen ss e).pieces ≡ Some rows → (length e.values.items == 0) ≡ (length rows == 0)
+pub none_end : (p : Contents) (ss : List Step) (e : End) (rows : Rows) → AreSteps ss e → (length ss == 0) ≡ true
+    → shown p (steps_seen ss e).pieces ≡ Some rows → (length e.values.items == 0) ≡ (length rows == 0)
 none_end p [] e rows h q j = none_leaf p e rows h j
 none_end p (s ∷ ss) e rows h q j = let z = is_zero (length (s ∷ ss)) q in absurd (omega (arith, z))
 
-pub some_step : (p : Contents) (ss : List Step) (e : End) (rows : Rows) → IsTrail ss e → (length ss == 0) ≡ false
+step_first : (p : Contents) (ss : List Step) (e : End) (rows : Rows) → IsTrail ss e → (length ss == 0) ≡ false
     → shown p (trail_seen ss e).pieces ≡ Some rows → false ≡ (length rows == 0)
-some_step p [] e rows h q j = let t : (0 == 0) ≡ true = grind (arith, nat_tests) in absurd (true≢false (sym t ∙ q))
-some_step p (s ∷ ss) e rows h q j = none_step p s (trail_seen ss e) rows h.0 j
+step_first p [] e rows h q j = let t : (0 == 0) ≡ true = grind (arith, nat_tests) in absurd (true≢false (sym t ∙ q))
+step_first p (s ∷ ss) e rows h q j = none_step p s (trail_seen ss e) rows h.0 j
+
+pub some_step : (p : Contents) (ss : List Step) (e : End) (rows : Rows) → AreSteps ss e → (length ss == 0) ≡ false
+    → shown p (steps_seen ss e).pieces ≡ Some rows → false ≡ (length rows == 0)
+some_step p ss e rows h q j = step_first p (reverse ss) e rows h (ap (λ n. n == 0) (length-reverse ss) ∙ q) j

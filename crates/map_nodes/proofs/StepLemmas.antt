@@ -1,9 +1,10 @@
 -- A step of a trail written down as a node.
 use Rattle.std.proofs.Common.{◌≡◌, ◌<◌, ◌≤◌, ◌+◌, ◌⊎◌, ℕ, zero, suc, inl, inr, List, [], ◌∷◌, ◌++◌, Some, length, set}
-use Rattle.std.proofs.Common.{append_assoc, length-append, length-set, refl, sym, ap, ◌∙◌, subst, arith}
+use Rattle.std.proofs.Common.{append_assoc, length-append, length-set, refl, reverse, sym, ap, ◌∙◌, subst, arith}
 use Rattle.std.specs.Arc.{arc_value}
 use Rattle.std.specs.List.{Contains}
 use Rattle.std.proofs.lemmas.List.Elements.{Contains-append_left, Contains-append_right}
+use Rattle.std.proofs.lemmas.List.{reverse-append}
 use mathlib.Core.List.{IsPrefix}
 use Rattle.group_history.specs.declared.nodes.Chunk.TheVariants as chunked
 use Rattle.group_history.specs.declared.nodes.Node.{Node}
@@ -29,12 +30,13 @@ use Rattle.map_nodes.proofs.FreezeLevels.{inner_level, leaf_level, step_level}
 use Rattle.map_nodes.proofs.NamedLemmas.{adds-none, adds-one, adds-within, inner-named}
 use Rattle.map_nodes.proofs.NodeLemmas.{shown-kids, shown-rows}
 use Rattle.map_nodes.proofs.SpotLemmas.{step_places}
-use Rattle.map_nodes.proofs.TrailLemmas.{kid_of, placed-places, step-fresh, step-pairs}
+use Rattle.map_nodes.proofs.TrailLemmas.{kid_of, placed-places, step-fresh, step-pairs, topmost}
 use Rattle.map_nodes.proofs.WideLemmas.{pushed_at, wide_inner, wide_node}
 use Rattle.map_nodes.specs.Inside.Freezing.{AreFrozen, IsFrozen, IsLevel, IsWritten, child_places, kids_places}
 use Rattle.map_nodes.specs.Inside.Nodes.{Kid}
 use Rattle.map_nodes.specs.Levels.{placed_levels, seen_levels, NamedLater}
-use Rattle.map_nodes.specs.Trails.{placed_kids, step_kids, step_names, step_seen, trail_seen, IsStep, IsTrail}
+use Rattle.map_nodes.specs.Trails.{placed_kids, step_kids, step_names, step_seen, steps_seen, trail_seen}
+use Rattle.map_nodes.specs.Trails.{AreSteps, IsStep, IsTrail}
 use Rattle.map_nodes.specs.declared.nodes.OwnChild.TheVariants.{Placed, Own}
 use Rattle.map_nodes.specs.declared.nodes.trails.End.{End}
 use Rattle.map_nodes.specs.declared.nodes.trails.Step.{Step}
@@ -166,11 +168,11 @@ below_step m s below h b r i = b r (subst (λ ps. Contains ps r) (sym (step_plac
 
 -- A WHOLE TRAIL
 
-pub trail_back : (a b : List Step) (e : End) → IsTrail (a ++ b) e → IsTrail b e
+trail_back : (a b : List Step) (e : End) → IsTrail (a ++ b) e → IsTrail b e
 trail_back [] b e h = h
 trail_back (s ∷ a) b e h = trail_back a b e h.1
 
-pub below_back : (m : ℕ) (a b : List Step) (e : End) → IsTrail (a ++ b) e
+below_back : (m : ℕ) (a b : List Step) (e : End) → IsTrail (a ++ b) e
     → AreBelow m (places_of (trail_seen (a ++ b) e).pieces) → AreBelow m (places_of (trail_seen b e).pieces)
 below_back m [] b e h l = l
 below_back m (s ∷ a) b e h l = below_back m a b e h.1 (below_step m s (trail_seen (a ++ b) e) h.0 l)
@@ -228,9 +230,25 @@ written_step first old mid new s ss e at root h f w k z =
       grown = prefix_trans old mid new f.grown (x ∷ [], sym w);
     }
 
--- the step that stands last, and the trail from it on
-pub popped : (all left init : List Step) (s : Step) (ss : List Step) (e : End) → IsTrail all e → all ≡ left ++ ss
-    → left ≡ init ++ s ∷ [] → (all ≡ init ++ s ∷ ss) × IsTrail (s ∷ ss) e
-popped all left init s ss e h w l =
-    let whole : all ≡ init ++ s ∷ ss = w ∙ ap (λ z. z ++ ss) l ∙ append_assoc init (s ∷ []) ss in
-    (whole, trail_back init (s ∷ ss) e (subst (λ z. IsTrail z e) whole h))
+-- STEPS, THE LOWEST FIRST
+
+-- the steps below one, itself, and those above it
+turned : (all ss rest : List Step) (s : Step) → all ≡ (ss ++ s ∷ []) ++ rest → reverse all
+    ≡ reverse rest ++ s ∷ reverse ss
+turned all ss rest s w = ap reverse w ∙ reverse-append (ss ++ s ∷ []) rest
+    ∙ ap (λ z. reverse rest ++ z) (topmost (ss ++ s ∷ []) ss s refl)
+
+-- the next of the steps that are left, and the trail from it down
+pub next_up : (all ss left rest : List Step) (s : Step) (e : End) → AreSteps all e → all ≡ ss ++ left → left ≡ s ∷ rest
+    → (all ≡ (ss ++ s ∷ []) ++ rest) × IsTrail (s ∷ reverse ss) e
+next_up all ss left rest s e h w l =
+    let whole : all ≡ (ss ++ s ∷ []) ++ rest = w ∙ ap (λ z. ss ++ z) l ∙ sym (append_assoc ss (s ∷ []) rest) in
+    (whole, trail_back (reverse rest) (s ∷ reverse ss) e (subst (λ z. IsTrail z e) (turned all ss rest s whole) h))
+
+pub below_up : (m : ℕ) (all ss rest : List Step) (s : Step) (e : End) → AreSteps all e
+    → all ≡ (ss ++ s ∷ []) ++ rest → AreBelow m (places_of (steps_seen all e).pieces)
+    → AreBelow m (places_of (trail_seen (s ∷ reverse ss) e).pieces)
+below_up m all ss rest s e h w b =
+    let t = turned all ss rest s w in
+    below_back m (reverse rest) (s ∷ reverse ss) e (subst (λ z. IsTrail z e) t h)
+    (subst (λ z. AreBelow m (places_of (trail_seen z e).pieces)) t b)

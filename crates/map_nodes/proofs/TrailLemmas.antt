@@ -1,7 +1,7 @@
 -- What a trail is as an own chunk: its steps as inner chunks, and a chunk of it in another place.
-use Rattle.std.proofs.Common.{◌≡◌, ◌<◌, ◌+◌, ◌-◌, ◌≢◌, ℕ, zero, suc, List, [], ◌∷◌, ◌++◌, Some, length, max}
+use Rattle.std.proofs.Common.{◌≡◌, ◌<◌, ◌+◌, ◌-◌, ◌≢◌, ℕ, zero, suc, List, [], ◌∷◌, ◌++◌, Some, length, max, reverse}
 use Rattle.std.proofs.Common.{slice_get, get_or, set, length-set, refl, sym, ap, ◌∙◌, subst, arith}
-use Rattle.std.proofs.lemmas.List.{get_or-set_same, get_or-set_other, get_or-map}
+use Rattle.std.proofs.lemmas.List.{get_or-set_same, get_or-set_other, get_or-map, length-reverse, reverse-append}
 use Rattle.std.specs.Arc.{arc_value}
 use denote.RawPtr.{null_ptr}
 use Rattle.group_history.specs.declared.refs.Ref.{Ref}
@@ -20,7 +20,8 @@ use Rattle.map_nodes.specs.Inside.Nodes.{Kid}
 use Rattle.map_nodes.specs.Levels.{parting}
 use Rattle.map_nodes.specs.Nodes.{AllKids, HeadIs, child_height, child_pieces, kids_fresh, kids_height, kids_pieces}
 use Rattle.map_nodes.specs.Nodes.{child_marks, kids_marks, sunk}
-use Rattle.map_nodes.specs.Trails.{placed_kids, step_kids, step_seen, trail_seen, IsTrailEnd, IsStep, IsTrail}
+use Rattle.map_nodes.specs.Trails.{placed_kids, step_kids, step_seen, steps_seen, trail_seen}
+use Rattle.map_nodes.specs.Trails.{AreSteps, IsTrailEnd, IsStep, IsTrail}
 use Rattle.map_nodes.specs.declared.nodes.OwnChild.{OwnChild}
 use Rattle.map_nodes.specs.declared.nodes.OwnChild.TheVariants.{Placed, Own}
 use Rattle.map_nodes.specs.declared.nodes.trails.End.{End}
@@ -86,17 +87,30 @@ step-fresh s below h =
     owned-inner below.depth (parting (arc_value s.keys)) (step_kids s below)
     ∙ ap (λ n. n + 1) (fresh_placed s.children.items s.place (kid_of s below) (omega (arith, h.1, h.2)))
 
-pub trail_depth : (ss : List Step) (e : End) → (trail_seen ss e).depth ≡ length ss + 1
+-- where the lowest step stands first, the last one is the topmost
+pub topmost : (all ss : List Step) (s : Step) → all ≡ ss ++ s ∷ [] → reverse all ≡ s ∷ reverse ss
+topmost all ss s w = ap reverse w ∙ reverse-append ss (s ∷ [])
+
+trail_depth : (ss : List Step) (e : End) → (trail_seen ss e).depth ≡ length ss + 1
 trail_depth [] e = omega arith
 trail_depth (s ∷ ss) e = let r = trail_depth ss e in omega (arith, r)
 
-pub trail_fresh : (ss : List Step) (e : End) → IsTrail ss e → fresh (trail_seen ss e) ≡ length ss + 1
+pub steps_depth : (ss : List Step) (e : End) → (steps_seen ss e).depth ≡ length ss + 1
+steps_depth ss e = trail_depth (reverse ss) e ∙ ap (λ n. n + 1) (length-reverse ss)
+
+trail_fresh : (ss : List Step) (e : End) → IsTrail ss e → fresh (trail_seen ss e) ≡ length ss + 1
 trail_fresh [] e h = omega arith
 trail_fresh (s ∷ ss) e h = let r = trail_fresh ss e h.1 in omega (arith, r, step-fresh s (trail_seen ss e) h.0)
 
-pub trail_end : (ss : List Step) (e : End) → IsTrail ss e → IsTrailEnd e
+pub steps_fresh : (ss : List Step) (e : End) → AreSteps ss e → fresh (steps_seen ss e) ≡ length ss + 1
+steps_fresh ss e h = trail_fresh (reverse ss) e h ∙ ap (λ n. n + 1) (length-reverse ss)
+
+trail_end : (ss : List Step) (e : End) → IsTrail ss e → IsTrailEnd e
 trail_end [] e h = h
 trail_end (s ∷ ss) e h = trail_end ss e h.1
+
+pub steps_end : (ss : List Step) (e : End) → AreSteps ss e → IsTrailEnd e
+steps_end ss e h = trail_end (reverse ss) e h
 
 -- an own chunk over the same chunk, wherever that lies
 pub seen_over : (s : Step) (below : Seen) (n : Kid) (depth : ℕ) (keys : List Bytes) (kids : List OwnChild)
@@ -191,6 +205,6 @@ here_placed s below i at h l o e =
     (get_or-set_other xs s.place i y y o ∙ get_or-map (λ w. Placed w) ats i at y (omega (arith, h.1, l)) ∙ ap
     (λ w. Placed w) (sym e))
 
-pub none_of : {A : Type 0} (xs : List A) → length xs ≡ 0 → xs ≡ []
-none_of [] h = refl
-none_of (x ∷ xs) h = absurd (omega arith)
+pub no_steps : (ss : List Step) → length ss ≡ 0 → reverse ss ≡ []
+no_steps [] h = refl
+no_steps (s ∷ ss) h = absurd (omega arith)

@@ -1,8 +1,7 @@
 -- The one way down to a key: through an inner chunk, and up again.
-use Rattle.std.proofs.Common.{◌≡◌, ◌<◌, ◌≤◌, ◌+◌, ◌-◌, ◌^◌, ℕ, Bool, List, [], ◌∷◌, Option, Some, None, length}
+use Rattle.std.proofs.Common.{◌≡◌, ◌<◌, ◌≤◌, ◌+◌, ◌-◌, ◌^◌, ℕ, Bool, List, ◌∷◌, Option, Some, None, length}
 use Rattle.std.proofs.Common.{reverse, slice_get, Result, Ok, Err, IfOk, IfErr, get_or, sym, ap, ◌∙◌, subst}
 use Rattle.std.proofs.Common.{arith}
-use Rattle.std.proofs.lemmas.List.{reverse-append}
 use Rattle.std.specs.List.{Contains}
 use Rattle.std.specs.Ordering.{nat_cmp}
 use Rattle.std.specs.Cmp.Lexicographic.{slice_cmp}
@@ -24,6 +23,7 @@ use Rattle.map_chunks.specs.Search.{IsPlace}
 use Rattle.map_chunks.specs.Seeking.{chunk_depth}
 use Rattle.map_chunks.specs.Shown.{Seen, chunk_rows, rows_or, IsTree}
 use Rattle.map_nodes.proofs.GrownLemmas.{fits_over, made_over, over, step_over}
+use Rattle.map_nodes.proofs.TrailLemmas.{topmost}
 use Rattle.map_nodes.specs.Inside.Laying.{CanStep, IsGrownOver, IsBuilt, IsChunkEnd, IsStepped}
 use Rattle.map_nodes.specs.Trails.{step_seen, trail_seen, IsTrail}
 use Rattle.map_nodes.specs.declared.nodes.putting.Half.{Half}
@@ -108,7 +108,7 @@ reached_up q r may copies as_trail key at below kids i u Laid y old new w t g pr
     other m step.1 in
     let deep : w.depth ≡ d = some_is (sym w.depth_is ∙ h.4.1) in
     let is : s ∷ steps ≡ reverse new.steps.items =
-    sym (ap reverse e.2.3 ∙ reverse-append old.steps.items (s ∷ [])) in
+    sym (topmost new.steps.items old.steps.items s e.2.3) in
     subst (λ z. IsChunkEnd r may copies as_trail (stamp_of at) (chunk_depth q (stamp_of at)) rows key u z new)
     (sym e.0) (
       v,

@@ -1,5 +1,5 @@
 -- What a trail is: new chunks on the way to one key, of which each but the leaf has the next in the place of a child.
-use Rattle.std.specs.Prelude.{◌+◌, ◌<◌, List, [], ◌∷◌, map, length, slice_set, ◌≡◌}
+use Rattle.std.specs.Prelude.{◌+◌, ◌<◌, List, [], ◌∷◌, map, length, reverse, slice_set, ◌≡◌}
 use Rattle.std.specs.Arc.{arc_value}
 use denote.RawPtr.{null_ptr}
 use Rattle.group_history.specs.declared.refs.Ref.{Ref}
@@ -61,3 +61,10 @@ IsStep s below = AreKeys (arc_value s.keys) × (length s.children.items ≡ leng
 abbrev pub IsTrail : List Step → End → Type 0
 IsTrail [] e = IsTrailEnd e
 IsTrail (s ∷ ss) e = IsStep s (trail_seen ss e) × IsTrail ss e
+
+-- the same of steps as they are kept, the lowest first
+abbrev pub steps_seen : List Step → End → Seen
+steps_seen ss e = trail_seen (reverse ss) e
+
+abbrev pub AreSteps : List Step → End → Type 0
+AreSteps ss e = IsTrail (reverse ss) e

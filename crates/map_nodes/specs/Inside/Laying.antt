@@ -1,5 +1,5 @@
 -- The way down from a placed chunk to a key, and the new chunks that are made on the way up.
-use Rattle.std.specs.Prelude.{◌≡◌, Bool, true, ℕ, ◌+◌, ◌-◌, ◌^◌, ◌≤◌, ◌<◌, List, [], ◌∷◌, ◌++◌, length, reverse}
+use Rattle.std.specs.Prelude.{◌≡◌, Bool, true, ℕ, ◌+◌, ◌-◌, ◌^◌, ◌≤◌, ◌<◌, List, [], ◌∷◌, ◌++◌, length}
 use Rattle.std.specs.Prelude.{slice_index_or, slice_set, Option, Some, None, IsSome}
 use Rattle.std.specs.Arc.{arc_value}
 use Rattle.std.specs.Ordering.{nat_cmp}
@@ -23,7 +23,7 @@ use Rattle.map_nodes.specs.Inside.Puts.{half_levels, IsHalved, IsLeafPut}
 use Rattle.map_nodes.specs.Inside.Ready.{Suits}
 use Rattle.map_nodes.specs.Levels.{parting, placed_levels, seen_levels, ArePut, RenewedLater}
 use Rattle.map_nodes.specs.Nodes.{Kids, kids_height, kids_marks, kids_pieces, row_pieces, sunk}
-use Rattle.map_nodes.specs.Trails.{placed_kids, IsTrailEnd, IsTrail, trail_seen}
+use Rattle.map_nodes.specs.Trails.{placed_kids, steps_seen, trail_seen, AreSteps, IsTrailEnd}
 use Rattle.map_nodes.specs.declared.nodes.OwnChild.{OwnChild}
 use Rattle.map_nodes.specs.declared.nodes.OwnChild.TheVariants.{Own}
 use Rattle.map_nodes.specs.declared.nodes.putting.Half.{Half}
@@ -104,8 +104,8 @@ IsChunkEnd contents places copies as_trail stamp depth rows key u Same l = (v : 
 IsChunkEnd contents places copies as_trail stamp depth rows key u (Refused code) l = u ≡ Refuse code
 IsChunkEnd contents places copies as_trail stamp depth rows key u Laid l = (v : Bytes) × (u ≡ Put v)
     × (find (slice_cmp nat_cmp) key rows ≡ Some v → ⊥) × (as_trail ≡ true)
-    × ((deep : ℕ) × (depth ≡ Some deep) × ((e : End) × (l.end ≡ Some e) × IsTrail (reverse l.steps.items) e
-    × IsBuilt contents places copies stamp deep rows key v (trail_seen (reverse l.steps.items) e) None))
+    × ((deep : ℕ) × (depth ≡ Some deep) × ((e : End) × (l.end ≡ Some e) × AreSteps l.steps.items e
+    × IsBuilt contents places copies stamp deep rows key v (steps_seen l.steps.items e) None))
 IsChunkEnd contents places copies as_trail stamp depth rows key u (Grown n half) l = (v : Bytes)
     × (u ≡ Put v) × (find (slice_cmp nat_cmp) key rows ≡ Some v → ⊥)
     × ((deep : ℕ) × (depth ≡ Some deep) × (deep ≤ stamp + 1)

@@ -2,7 +2,7 @@
 //!
 //! Its chunks are those on the way to the key. Each but the leaf has placed children, and the next chunk in the place
 //! of one of them, so no chunk lies behind a pointer, and each is written down as it is. Contracts see a trail as the
-//! own chunk that stands first. What else is changed is changed in an own chunk with the same pieces (`thawing`).
+//! own chunk that stands on top. What else is changed is changed in an own chunk with the same pieces (`thawing`).
 mod freezing;
 mod laying;
 mod reading;
@@ -29,7 +29,7 @@ pub(crate) struct End {
     values: Vec<Json>,
 }
 
-/// The chunks on the way to one key, the root first.
+/// The chunks on the way to one key, the lowest step first.
 #[derive(Drop)]
 pub struct Trail {
     steps: Vec<Step>,
@@ -41,9 +41,9 @@ impl Model for Trail {
 
     ghost Value = { Seen };
 
-    ghost use Rattle.map_nodes.specs.Trails.{trail_seen, IsTrail};
+    ghost use Rattle.map_nodes.specs.Trails.{steps_seen, AreSteps};
 
-    ghost view = { λ t. trail_seen t.steps.items t.end };
+    ghost view = { λ t. steps_seen t.steps.items t.end };
 
-    ghost invariant = { λ t. IsTrail t.steps.items t.end };
+    ghost invariant = { λ t. AreSteps t.steps.items t.end };
 }

@@ -14,7 +14,7 @@ ghost use Rattle.map_chunks.specs.Shown.{fresh, shown};
 ghost use Rattle.map_chunks.specs.Wide.{IsWideAt};
 ghost use Rattle.map_nodes.specs.Inside.Freezing.{IsWritten};
 ghost use Rattle.map_nodes.specs.Levels.{placed_levels, seen_levels, NamedLater};
-ghost use Rattle.map_nodes.specs.Trails.{step_names, trail_seen, IsTrail};
+ghost use Rattle.map_nodes.specs.Trails.{step_names, steps_seen, AreSteps};
 
 use super::{End, Step, Trail};
 use group_history::{Chunk, Inner, Leaf, Node, Ref, Refusal};
@@ -51,24 +51,23 @@ fn freeze_step(step: Step, below: Ref, draft: &mut Draft) -> Result<Ref, Refusal
 
 // Appends a trail's chunks, the leaf first.
 fn freeze_all(steps: Vec<Step>, end: End, draft: &mut Draft) -> Result<Ref, Refusal>
-    requires trail { IsTrail steps.items end }
+    requires trail { AreSteps steps.items end }
     requires below { AreBelow (draft.old.first + length draft.old.nodes)
-        (places_of (trail_seen steps.items end).pieces) }
+        (places_of (steps_seen steps.items end).pieces) }
     ensures written { IfOk result (IsWritten draft.old.first draft.old.nodes draft.new.nodes
-        (trail_seen steps.items end)) }
+        (steps_seen steps.items end)) }
     ensures needed { IfOk result (λ at. AddsNeeded [] (at ∷ []) draft.old draft.new) }
     ensures bound { OnErr result (length draft.new.nodes
-        < length draft.old.nodes + fresh (trail_seen steps.items end)) }
+        < length draft.old.nodes + fresh (steps_seen steps.items end)) }
     ensures first { draft.new.first ≡ draft.old.first }
     ensures grown { IsPrefix draft.old.nodes draft.new.nodes }
     ensures why { IfErr result (λ e. (e ≡ refusal.NoMemory)
         ⊎ ((e ≡ refusal.Stamps) × (stamps ≤ draft.new.first + length draft.new.nodes))) }
     ensures late { IfErr result (λ e. e ≡ refusal.Stamps → IsLate draft.old.first) }
 {
-    let mut left = steps;
     let leaf = Leaf::new(end.keys, end.values);
     let mut at = draft.push(Node::Chunk(Chunk::Leaf(leaf)))?;
-    while let Some(step) = left.pop() {
+    for step in steps {
         at = freeze_step(step, at, draft)?;
     }
     Ok(at)

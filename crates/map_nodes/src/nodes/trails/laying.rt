@@ -5,7 +5,7 @@
 //! asked for and no chunk is split, and own chunks otherwise. All chunks stay as they are until all new ones are made,
 //! so memory may be refused on the way up, too.
 ghost use Rattle.std.specs.Prelude.{◌≡◌, ◌⊎◌, ◌++◌, ◌∷◌, ◌+◌, ◌<◌, ◌^◌, [], ℕ, length, Ok, Err, Option, Some, None};
-ghost use Rattle.std.specs.Prelude.{IfOk, IfErr, OnOk, vec_items, slice_get, slice_index_or, slice_set, reverse};
+ghost use Rattle.std.specs.Prelude.{IfOk, IfErr, OnOk, vec_items, slice_get, slice_index_or, slice_set};
 ghost use Rattle.std.specs.Ordering.{nat_cmp};
 ghost use Rattle.std.specs.Cmp.Lexicographic.{slice_cmp};
 ghost use Rattle.std.specs.Arc.{arc_value};
@@ -25,7 +25,7 @@ ghost use Rattle.map_nodes.specs.Inside.Asking.{Asked, CanBeAsked};
 ghost use Rattle.map_nodes.specs.Inside.Halves.{lowered, IsLower};
 ghost use Rattle.map_nodes.specs.Inside.Laying.{IsPutEnd, IsCopiedStep, IsLeafEnd, IsChunkEnd, CanGrowOver, CanStep};
 ghost use Rattle.map_nodes.specs.Inside.Laying.{IsGrownUp, IsStepped};
-ghost use Rattle.map_nodes.specs.Trails.{leaf_seen, trail_seen, IsTrailEnd, IsTrail};
+ghost use Rattle.map_nodes.specs.Trails.{leaf_seen, steps_seen, AreSteps, IsTrailEnd};
 ghost use Rattle.map_nodes.specs.Inside.Nodes.{Kid};
 ghost use Rattle.map_nodes.specs.declared.nodes.trails.End.{End as Ends};
 ghost use Rattle.map_nodes.specs.declared.nodes.trails.Step.{Step as Steps};
@@ -461,11 +461,9 @@ impl Trail {
     /// The trail of new chunks.
     #[inline(always)]
     pub(crate) fn of(steps: Vec<Step>, end: Option<End>) -> Trail
-        requires { (e : Ends) × (end ≡ Some e) × IsTrail (reverse steps.items) e }
-        ensures { (e : Ends) → end ≡ Some e → result ≡ trail_seen (reverse steps.items) e }
+        requires { (e : Ends) × (end ≡ Some e) × AreSteps steps.items e }
+        ensures { (e : Ends) → end ≡ Some e → result ≡ steps_seen steps.items e }
     {
-        let mut steps = steps;
-        steps.reverse();
         Trail {
             steps,
             end: end.unwrap(),

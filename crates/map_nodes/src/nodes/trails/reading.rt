@@ -10,7 +10,7 @@ ghost use Rattle.map_chunks.specs.Places.{Grows, AreAll, places_of};
 ghost use Rattle.map_chunks.specs.Seeking.{is_key_in};
 ghost use Rattle.map_chunks.specs.Shown.{fresh, shown, IsTree, rows_or};
 ghost use Rattle.map_nodes.specs.Inside.Spots.{IsSpot};
-ghost use Rattle.map_nodes.specs.Trails.{trail_seen, IsTrail};
+ghost use Rattle.map_nodes.specs.Trails.{steps_seen, AreSteps};
 
 use super::{End, Step, Trail};
 use group_history::{Json, Ref, SearchKey, Stop};
@@ -21,11 +21,11 @@ use map_chunks::seeking::seek_placed;
 
 // The placed chunk where the way to a key leaves the trail, if it does.
 fn spot(steps: &[Step], end: &End, key: &SearchKey<'_>) -> Option<Ref>
-    requires { IsTrail steps.now end.now }
-    ensures { (contents : Contents) → IsTree (shown contents (trail_seen steps.now end.now).pieces)
-        → IsSpot contents key.now (trail_seen steps.now end.now).pieces end.now result }
+    requires { AreSteps steps.now end.now }
+    ensures { (contents : Contents) → IsTree (shown contents (steps_seen steps.now end.now).pieces)
+        → IsSpot contents key.now (steps_seen steps.now end.now).pieces end.now result }
 {
-    let Some((step, rest)) = steps.split_first() else {
+    let Some((step, rest)) = steps.split_last() else {
         return None;
     };
     let place = place_for(step.keys.as_slice(), key);

@@ -1,5 +1,5 @@
 //! Scans of a trail. Each step's children are scanned in order, and the trail below it in its turn.
-ghost use Rattle.std.specs.Prelude.{◌≡◌, ◌⊎◌, ◌<◌, ◌∷◌, length, IfErr};
+ghost use Rattle.std.specs.Prelude.{◌≡◌, ◌⊎◌, ◌<◌, ◌∷◌, length, reverse, IfErr};
 ghost use Rattle.std.specs.Arc.{arc_value};
 ghost use Rattle.group_history.specs.Rows.{paired};
 ghost use Rattle.group_history.specs.declared.mutators.Stop.TheVariants.{NoMemory};
@@ -8,7 +8,7 @@ ghost use Rattle.map_chunks.specs.Scanning.{taken, Gave};
 ghost use Rattle.map_chunks.specs.Shown.{shown, IsTree, rows_or};
 ghost use Rattle.map_nodes.specs.Inside.Freezing.{child_places, kids_places};
 ghost use Rattle.map_nodes.specs.Inside.Scanning.{kid_shown, kids_shown, step_kid};
-ghost use Rattle.map_nodes.specs.Trails.{step_kids, trail_seen, IsTrail};
+ghost use Rattle.map_nodes.specs.Trails.{step_kids, steps_seen, AreSteps, IsTrail};
 
 use super::{End, Step, Trail};
 use group_history::{Scan, Stop};
@@ -72,17 +72,17 @@ fn scan_steps<C: Chunks, S: TakesRows>(
     room: Option<u64>,
     sink: &mut S,
 ) -> Result<Option<u64>, Stop>
-    requires trail { IsTrail rest.steps.now rest.end.now }
-    requires places { AreAll (C.places chunks.old) (places_of (trail_seen rest.steps.now rest.end.now).pieces) }
-    requires tree { IsTree (shown (C.contents chunks.old) (trail_seen rest.steps.now rest.end.now).pieces) }
+    requires trail { AreSteps rest.steps.now rest.end.now }
+    requires places { AreAll (C.places chunks.old) (places_of (steps_seen rest.steps.now rest.end.now).pieces) }
+    requires tree { IsTree (shown (C.contents chunks.old) (steps_seen rest.steps.now rest.end.now).pieces) }
     ensures grown { Grows C.contents C.places chunks.old chunks.new }
     ensures rows { Gave S.has sink.old sink.new room result
         (taken scan.now room (rows_or (shown (C.contents chunks.old)
-        (trail_seen rest.entry.steps.now rest.entry.end.now).pieces))) }
+        (steps_seen rest.entry.steps.now rest.entry.end.now).pieces))) }
     ensures stopped { IfErr result (λ s. (s ≡ NoMemory) ⊎ C.stops s) }
 {
     let Rest { steps, end } = rest;
-    let Some((step, rest)) = steps.split_first() else {
+    let Some((step, rest)) = steps.split_last() else {
         let left = scan_rows(end.keys.as_slice(), &end.values, scan, room, sink)?;
         return Ok(left);
     };
@@ -99,15 +99,15 @@ fn scan_children<C: Chunks, S: TakesRows>(
     room: Option<u64>,
     sink: &mut S,
 ) -> Result<Option<u64>, Stop>
-    requires trail { IsTrail (way.step.now ∷ way.rest.now) way.end.now }
+    requires trail { IsTrail (way.step.now ∷ reverse way.rest.now) way.end.now }
     requires places { AreAll (C.places chunks.old)
-        (kids_places (step_kids way.step.now (trail_seen way.rest.now way.end.now))) }
+        (kids_places (step_kids way.step.now (steps_seen way.rest.now way.end.now))) }
     requires tree { IsTree (kids_shown (C.contents chunks.old) (paired (arc_value way.step.now.keys)
-        (step_kids way.step.now (trail_seen way.rest.now way.end.now)))) }
+        (step_kids way.step.now (steps_seen way.rest.now way.end.now)))) }
     ensures grown { Grows C.contents C.places chunks.old chunks.new }
     ensures rows { Gave S.has sink.old sink.new room result
         (taken scan.now room (rows_or (kids_shown (C.contents chunks.old) (paired (arc_value way.entry.step.now.keys)
-        (step_kids way.entry.step.now (trail_seen way.entry.rest.now way.entry.end.now)))))) }
+        (step_kids way.entry.step.now (steps_seen way.entry.rest.now way.entry.end.now)))))) }
     ensures stopped { IfErr result (λ s. (s ≡ NoMemory) ⊎ C.stops s) }
 {
     let firsts = way.step.keys.as_slice();
@@ -131,16 +131,16 @@ fn scan_child<C: Chunks, S: TakesRows>(
     room: Option<u64>,
     sink: &mut S,
 ) -> Result<Option<u64>, Stop>
-    requires trail { IsTrail (child.way.step.now ∷ child.way.rest.now) child.way.end.now }
+    requires trail { IsTrail (child.way.step.now ∷ reverse child.way.rest.now) child.way.end.now }
     requires within { child.place < length child.way.step.now.children.items }
     requires places { AreAll (C.places chunks.old)
-        (child_places (step_kid child.way.step.now (trail_seen child.way.rest.now child.way.end.now) child.place)) }
+        (child_places (step_kid child.way.step.now (steps_seen child.way.rest.now child.way.end.now) child.place)) }
     requires tree { IsTree (kid_shown (C.contents chunks.old)
-        (step_kid child.way.step.now (trail_seen child.way.rest.now child.way.end.now) child.place)) }
+        (step_kid child.way.step.now (steps_seen child.way.rest.now child.way.end.now) child.place)) }
     ensures grown { Grows C.contents C.places chunks.old chunks.new }
     ensures rows { Gave S.has sink.old sink.new room result
         (taken scan.now room (rows_or (kid_shown (C.contents chunks.old) (step_kid child.entry.way.step.now
-        (trail_seen child.entry.way.rest.now child.entry.way.end.now) child.entry.place)))) }
+        (steps_seen child.entry.way.rest.now child.entry.way.end.now) child.entry.place)))) }
     ensures stopped { IfErr result (λ s. (s ≡ NoMemory) ⊎ C.stops s) }
 {
     let StepChild { way, place } = child;

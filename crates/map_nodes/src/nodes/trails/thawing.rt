@@ -1,7 +1,7 @@
 //! An own chunk with a trail's pieces, to be changed.
 ghost use Rattle.std.specs.Prelude.{◌≡◌, ◌<◌, [], length, slice_set, IfOk};
 ghost use Rattle.map_nodes.specs.Inside.Nodes.{Kid};
-ghost use Rattle.map_nodes.specs.Trails.{placed_kids, trail_seen, IsTrail};
+ghost use Rattle.map_nodes.specs.Trails.{placed_kids, steps_seen, trail_seen, AreSteps, IsTrail};
 ghost use Rattle.map_nodes.specs.declared.nodes.OwnChild.TheVariants.{Own};
 
 use super::super::copies::{copied_values, placed_children};
@@ -43,10 +43,10 @@ fn leaf_node(alloc: Global, end: &End) -> Result<OwnNode, AllocError>
 }
 
 fn thawed(alloc: Global, steps: &[Step], end: &End) -> Result<OwnNode, AllocError>
-    requires { IsTrail steps.now end.now }
-    ensures { IfOk result (λ node. node ≡ trail_seen steps.now end.now) }
+    requires { AreSteps steps.now end.now }
+    ensures { IfOk result (λ node. node ≡ steps_seen steps.now end.now) }
 {
-    let Some((step, rest)) = steps.split_first() else {
+    let Some((step, rest)) = steps.split_last() else {
         return leaf_node(alloc, end);
     };
     let below = thawed(alloc, rest, end)?;

@@ -1,10 +1,10 @@
-use Rattle.std.proofs.Common.{◌∙◌, true, Some, None, ap, reverse, subst, sym, refl}
+use Rattle.std.proofs.Common.{◌∙◌, true, Some, None, ap, subst, sym, refl}
 use Rattle.group_history.specs.Refs.{stamp_of}
 use Rattle.map_chunks.specs.Seeking.{chunk_depth}
 use Rattle.map_chunks.specs.Shown.{chunk_rows, rows_or}
 use Rattle.map_nodes.proofs.UpdateLemmas.{made_order, made_root}
 use Rattle.map_nodes.specs.Inside.Laying.{IsBuilt, IsChunkEnd}
-use Rattle.map_nodes.specs.Trails.{trail_seen}
+use Rattle.map_nodes.specs.Trails.{steps_seen}
 use Rattle.map_nodes.specs.Updating.{IsPutIn, IsUpdated}
 use Rattle.map_nodes.proofs.roots.OwnRoot.settled.Goals as goal
 
@@ -19,7 +19,7 @@ returns-in-Laid g c u reached =
     let h = subst (λ w. IsChunkEnd p may 1 true k (chunk_depth p k) rows key u w l) c.in-Laid.is reached in
     let deep = h.4.0 in
     let end = h.4.2.0 in
-    let seen = trail_seen (reverse l.steps.items) end in
+    let seen = steps_seen l.steps.items end in
     let root = c.made.ensures.1 ∙ ap (λ w. Some w) (c.of_trail.ensures ∙ c.of.ensures end h.4.2.1) in
     subst (λ w. IsUpdated p p may k key w c.made.result) (sym h.1) (
       c.made.ensures.0,

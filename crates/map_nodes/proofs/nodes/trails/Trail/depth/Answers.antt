@@ -1,6 +1,6 @@
 use Rattle.std.proofs.Common.{arith, ap}
 use Rattle.map_chunks.specs.Shown.{Seen}
-use Rattle.map_nodes.proofs.TrailLemmas.{trail_depth}
+use Rattle.map_nodes.proofs.TrailLemmas.{steps_depth}
 use Rattle.map_nodes.proofs.nodes.trails.Trail.depth.Goals as goal
 
 pub returns : goal.returns
@@ -8,6 +8,6 @@ returns c = omega (
   arith,
   c.len.ensures,
   c.self.inside.steps.ok.0,
-  trail_depth c.self.inside.steps.items c.self.inside.end,
+  steps_depth c.self.inside.steps.items c.self.inside.end,
   ap (λ (s : Seen). s.depth) c.self.view_is,
 )

@@ -1,15 +1,17 @@
-use Rattle.std.proofs.Common.{◌≡◌, ◌++◌, List, [], ◌∷◌, vec_len}
+use Rattle.std.proofs.Common.{◌≡◌, ◌++◌, [], ◌∷◌}
+use Rattle.std.specs.Vec.Iter.{into_iter_items}
 use Rattle.map_chunks.specs.Drafts.{AddsNeeded}
 use Rattle.map_nodes.specs.Inside.Freezing.{IsWritten}
-use Rattle.map_nodes.specs.Trails.{trail_seen}
-use Rattle.map_nodes.specs.declared.nodes.trails.Step.{Step}
+use Rattle.map_nodes.specs.Trails.{steps_seen}
 use Rattle.map_nodes.proofs.nodes.trails.freezing.freeze_all.Given as goal
 
 abbrev pub invariant-loop-step : goal.invariant-loop-step
-invariant-loop-step l = (ss : List Step) × (l.fn.steps.items ≡ l.left.items ++ ss)
-    × (l.draft.first ≡ l.fn.draft.first)
-    × IsWritten l.fn.draft.first l.fn.draft.nodes l.draft.nodes (trail_seen ss l.fn.end) l.at
-    × AddsNeeded [] (l.at ∷ []) l.fn.draft l.draft
-
-abbrev pub decreases-loop-step : goal.decreases-loop-step
-decreases-loop-step l = vec_len l.left
+invariant-loop-step l =
+    record {
+      can : goal.iterator-loop-step.can_next l.step-iterator;
+      finite : goal.iterator-loop-step.is_finite l.step-iterator;
+      whole : l.fn.steps.items ≡ l.yielded ++ into_iter_items l.step-iterator;
+      first : l.draft.first ≡ l.fn.draft.first;
+      written : IsWritten l.fn.draft.first l.fn.draft.nodes l.draft.nodes (steps_seen l.yielded l.fn.end) l.at;
+      needed : AddsNeeded [] (l.at ∷ []) l.fn.draft l.draft;
+    }

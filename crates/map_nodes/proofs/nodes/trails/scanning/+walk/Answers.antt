@@ -1,4 +1,5 @@
-use Rattle.std.proofs.Common.{[], ◌∷◌, ◌≡◌, ◌∙◌, ◌<◌, ap, sym, subst, arith, length, append-nil, slice_index_or}
+use Rattle.std.proofs.Common.{[], ◌∷◌, ◌≡◌, ◌∙◌, ◌<◌, ap, sym, subst, arith, length, append-nil, reverse}
+use Rattle.std.proofs.Common.{slice_index_or}
 use Rattle.std.specs.Arc.{arc_value}
 use Rattle.group_history.specs.Rows.{paired}
 use Rattle.map_chunks.specs.Places.{AreAll, places_of}
@@ -13,17 +14,17 @@ use Rattle.map_chunks.proofs.TakenLemmas.{gave_begun}
 use Rattle.map_nodes.proofs.PlaceLemmas.{kid_all}
 use Rattle.map_nodes.proofs.ScanLemmas.{kid_turn, shown_kid}
 use Rattle.map_nodes.proofs.SpotLemmas.{step_places}
-use Rattle.map_nodes.proofs.TrailLemmas.{none_of, step-pairs}
+use Rattle.map_nodes.proofs.TrailLemmas.{step-pairs, topmost}
 use Rattle.map_nodes.proofs.WalkLemmas.{end_shown, kid_here, step_shown}
 use Rattle.map_nodes.specs.Inside.Scanning.{kids_shown, step_kid}
-use Rattle.map_nodes.specs.Trails.{step_kids, trail_seen, IsTrail}
+use Rattle.map_nodes.specs.Trails.{step_kids, steps_seen, trail_seen, IsTrail}
 use Rattle.map_nodes.proofs.nodes.trails.scanning.+walk.Goals as goal
 
 pub scan_steps-returns-in_default-clause-rows : goal.scan_steps-returns-in_default-clause-rows
 scan_steps-returns-in_default-clause-rows g t c =
     let p = g.C.Chunks.contents c.args.chunks.now in
     let has = end_shown p c.args.rest.steps.now c.args.rest.end.now c.as_slice.result.now c.deref-in_default.result.now
-    (none_of c.args.rest.steps.now c.in_default.ensures.cases) (c.as_slice.ensures.keys ∙ c.deref.ensures)
+    c.in_default.ensures.cases (c.as_slice.ensures.keys ∙ c.deref.ensures)
     c.deref-in_default.ensures.value in
     subst (λ w. Took g.S.TakesRows.has c.args.sink.now c.scan_rows.new.sink c.args.room c.in_ok-left.left
     (taken c.args.scan.now c.args.room w)) has c.in_ok-left.ensures
@@ -32,7 +33,7 @@ pub scan_steps-returns-in_err-left-clause-rows : goal.scan_steps-returns-in_err-
 scan_steps-returns-in_err-left-clause-rows g t c =
     let p = g.C.Chunks.contents c.args.chunks.now in
     let has = end_shown p c.args.rest.steps.now c.args.rest.end.now c.as_slice.result.now c.deref-in_default.result.now
-    (none_of c.args.rest.steps.now c.in_default.ensures.cases) (c.as_slice.ensures.keys ∙ c.deref.ensures)
+    c.in_default.ensures.cases (c.as_slice.ensures.keys ∙ c.deref.ensures)
     c.deref-in_default.ensures.value in
     gave_begun g.S.TakesRows.has c.args.sink.now c.scan_rows.new.sink c.args.room c.from_residual.result _ _
     c.from_residual.ensures.1
@@ -42,16 +43,16 @@ scan_steps-returns-in_err-left-clause-rows g t c =
 pub scan_steps-scan_children-requires : goal.scan_steps-scan_children-requires
 scan_steps-scan_children-requires g t c κs within =
     let s = c.in-Some.step.now in
-    let ss = c.in-Some.rest.now in
+    let ss = reverse c.in-Some.rest.now in
     let e = c.args.rest.end.now in
     let p = g.C.Chunks.contents c.args.chunks.now in
-    let w = c.in-Some.ensures.cases.0 in
+    let w = topmost c.args.rest.steps.now c.in-Some.rest.now s c.in-Some.ensures.cases.0 in
     let h : IsTrail (s ∷ ss) e = subst (λ z. IsTrail z e) w c.requires.trail in
-    let n = known (shown p (trail_seen c.args.rest.steps.now e).pieces) c.requires.tree in
+    let n = known (shown p (steps_seen c.args.rest.steps.now e).pieces) c.requires.tree in
     let shows = step_shown p s (trail_seen ss e) n.rows h.0
     (ap (λ z. shown p (trail_seen z e).pieces) (sym w) ∙ n.is) in
     let places = ap (λ z. places_of (trail_seen z e).pieces) w ∙ step_places s (trail_seen ss e) h.0 in (
-      omega (arith, ap length w, c.decreases),
+      omega (arith, c.in-Some.ensures.cases.1, c.decreases),
       (
         within.0,
         (
@@ -74,12 +75,12 @@ scan_steps-scan_children-requires g t c κs within =
 pub scan_steps-returns-clause-rows : goal.scan_steps-returns-clause-rows
 scan_steps-returns-clause-rows g t c =
     let s = c.in-Some.step.now in
-    let ss = c.in-Some.rest.now in
+    let ss = reverse c.in-Some.rest.now in
     let e = c.args.rest.end.now in
     let p = g.C.Chunks.contents c.args.chunks.now in
-    let w = c.in-Some.ensures.cases.0 in
+    let w = topmost c.args.rest.steps.now c.in-Some.rest.now s c.in-Some.ensures.cases.0 in
     let h : IsTrail (s ∷ ss) e = subst (λ z. IsTrail z e) w c.requires.trail in
-    let n = known (shown p (trail_seen c.args.rest.steps.now e).pieces) c.requires.tree in
+    let n = known (shown p (steps_seen c.args.rest.steps.now e).pieces) c.requires.tree in
     let shows = step_shown p s (trail_seen ss e) n.rows h.0
     (ap (λ z. shown p (trail_seen z e).pieces) (sym w) ∙ n.is) in
     subst (λ z. Gave g.S.TakesRows.has c.args.sink.now c.scan_children.new.sink c.args.room c.scan_children.result
@@ -89,7 +90,7 @@ pub scan_children-loop-place-init : goal.scan_children-loop-place-init
 scan_children-loop-place-init g t c =
     let p = g.C.Chunks.contents c.args.chunks.now in
     let s = c.args.way.step.now in
-    let below = trail_seen c.args.way.rest.now c.args.way.end.now in
+    let below = steps_seen c.args.way.rest.now c.args.way.end.now in
     let ks = arc_value s.keys in
     let xs = step_kids s below in
     let l = step-pairs s below c.requires.trail.0 in
@@ -108,7 +109,7 @@ pub scan_children-returns-then-is_over-clause-rows : goal.scan_children-returns-
 scan_children-returns-then-is_over-clause-rows g t c =
     let p = g.C.Chunks.contents c.args.chunks.now in
     let s = c.args.way.step.now in
-    let below = trail_seen c.args.way.rest.now c.args.way.end.now in
+    let below = steps_seen c.args.way.rest.now c.args.way.end.now in
     let ks = arc_value s.keys in
     let xs = step_kids s below in
     let l = step-pairs s below c.requires.trail.0 in
@@ -127,7 +128,7 @@ pub scan_children-scan_child-requires : goal.scan_children-scan_child-requires
 scan_children-scan_child-requires g t c κs within =
     let p = g.C.Chunks.contents c.args.chunks.now in
     let s = c.args.way.step.now in
-    let below = trail_seen c.args.way.rest.now c.args.way.end.now in
+    let below = steps_seen c.args.way.rest.now c.args.way.end.now in
     let ks = arc_value s.keys in
     let xs = step_kids s below in
     let l = step-pairs s below c.requires.trail.0 in
@@ -159,7 +160,7 @@ pub scan_children-loop-place-preserved : goal.scan_children-loop-place-preserved
 scan_children-loop-place-preserved g t c =
     let p = g.C.Chunks.contents c.args.chunks.now in
     let s = c.args.way.step.now in
-    let below = trail_seen c.args.way.rest.now c.args.way.end.now in
+    let below = steps_seen c.args.way.rest.now c.args.way.end.now in
     let ks = arc_value s.keys in
     let xs = step_kids s below in
     let l = step-pairs s below c.requires.trail.0 in
@@ -186,7 +187,7 @@ pub scan_children-returns-in_err-left-clause-rows : goal.scan_children-returns-i
 scan_children-returns-in_err-left-clause-rows g t c =
     let p = g.C.Chunks.contents c.args.chunks.now in
     let s = c.args.way.step.now in
-    let below = trail_seen c.args.way.rest.now c.args.way.end.now in
+    let below = steps_seen c.args.way.rest.now c.args.way.end.now in
     let ks = arc_value s.keys in
     let xs = step_kids s below in
     let l = step-pairs s below c.requires.trail.0 in
@@ -211,7 +212,7 @@ pub scan_children-returns-clause-rows : goal.scan_children-returns-clause-rows
 scan_children-returns-clause-rows g t c =
     let p = g.C.Chunks.contents c.args.chunks.now in
     let s = c.args.way.step.now in
-    let below = trail_seen c.args.way.rest.now c.args.way.end.now in
+    let below = steps_seen c.args.way.rest.now c.args.way.end.now in
     let ks = arc_value s.keys in
     let xs = step_kids s below in
     let l = step-pairs s below c.requires.trail.0 in

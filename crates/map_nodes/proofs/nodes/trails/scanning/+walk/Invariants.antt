@@ -5,7 +5,7 @@ use Rattle.map_chunks.proofs.ScanLemmas.{first_rows}
 use Rattle.map_chunks.specs.Places.{Grows}
 use Rattle.map_chunks.specs.Scanning.{Took, taken}
 use Rattle.map_nodes.proofs.ScanLemmas.{shown_kid}
-use Rattle.map_nodes.specs.Trails.{step_kids, trail_seen}
+use Rattle.map_nodes.specs.Trails.{step_kids, steps_seen}
 use Rattle.map_nodes.proofs.nodes.trails.scanning.+walk.Given as goal
 
 abbrev pub decreases-scan_steps : goal.decreases-scan_steps
@@ -23,5 +23,5 @@ invariant-scan_children-loop-place g l =
       grown : Grows g.C.Chunks.contents g.C.Chunks.places l.fn.chunks l.chunks;
       rows : Took g.S.TakesRows.has l.fn.sink l.sink l.fn.room l.left (taken l.scan l.fn.room
           (first_rows (shown_kid (g.C.Chunks.contents l.fn.chunks)) (paired (arc_value l.way.step.now.keys)
-          (step_kids l.way.step.now (trail_seen l.way.rest.now l.way.end.now))) l.place));
+          (step_kids l.way.step.now (steps_seen l.way.rest.now l.way.end.now))) l.place));
     }
