@@ -296,8 +296,8 @@ fn place_taken<M: Means, S: Store<M>>(
     }
 }
 
-/// Slots are sought from that of the placed commit below the draft's on: it was placed last, by whichever seat, so what
-/// lies there is in the processors' caches.
+// Slots are sought from that of the placed commit below the draft's on: it was placed last, by whichever seat, so what
+// lies there is in the processors' caches.
 fn begin_at_basis<M: Means, S: Store<M>>(store: &S, seat: &mut S::Seat, draft: &Draft)
     ensures seat { seat.new ≡ seat.old }
 {

@@ -68,8 +68,8 @@ pub struct Raised;
 #[derive(Drop)]
 pub struct ClaimSeat {
     reader: TableSeat,
-    // Where it last found a slot, at first a place of its own, and the least slot that it retired
-    // since.
+    // Where slots are sought from: where it last found one, or where it was told to begin, at first a place of its own;
+    // and the least slot that it retired since.
     last: u32,
     retired: Option<u32>,
     // Whether a pass found no ordinary slot, since which the seat did nothing but take slots.
