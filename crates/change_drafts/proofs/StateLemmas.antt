@@ -5,7 +5,7 @@ use Rattle.std.specs.FinMap.{insert}
 use Rattle.std.proofs.lemmas.List.{reverse-append, reverse-reverse, take_more}
 use Rattle.group_history.specs.declared.responses.Confirmed.{Confirmed}
 use Rattle.group_history.specs.declared.responses.Patch.{Patch}
-use Rattle.group_history.specs.declared.mutations.Mutation.{Mutation}
+use Rattle.group_history.specs.declared.mutations.MutationFields.{MutationFields as Mutation}
 use Rattle.group_history.specs.Cookies.{Cookie}
 use Rattle.group_history.specs.Map.{Bytes, patched}
 use Rattle.group_history.specs.Pull.{Pull}

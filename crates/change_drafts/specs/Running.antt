@@ -1,6 +1,6 @@
 -- A run of a mutator on a tree.
 use Rattle.std.specs.Prelude.{◌≡◌, Bool, true, false, List, Some, Contains}
-use Rattle.group_history.specs.declared.mutations.Mutation.{Mutation}
+use Rattle.group_history.specs.declared.mutations.MutationFields.{MutationFields as Mutation}
 use Rattle.group_history.specs.Map.{Bytes, Entries}
 use Rattle.group_history.specs.Meaning.{Meaning, Meanings}
 use Rattle.group_history.specs.Ran.{RunsAs}

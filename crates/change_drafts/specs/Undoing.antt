@@ -1,7 +1,7 @@
 -- What keys had before they were written, and the map with all of it put back.
 use Rattle.std.specs.Prelude.{Bool, true, false, List, [], ◌∷◌, Option, Some, None}
 use Rattle.std.specs.FinMap as finite
-use Rattle.group_history.specs.declared.mutations.Mutation.{Mutation}
+use Rattle.group_history.specs.declared.mutations.MutationFields.{MutationFields as Mutation}
 use Rattle.group_history.specs.Map.{Bytes, Entries}
 
 -- the map with this at the key; none: without the key

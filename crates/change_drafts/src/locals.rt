@@ -8,7 +8,7 @@ ghost use Rattle.group_history.specs.Mutating.{after_mutate, by_meaning, map_if_
 ghost use Rattle.group_history.specs.Refs.{stamp_of};
 ghost use Rattle.group_history.specs.Spelling.{Contents, Version, map_at, Spells, tells_right};
 ghost use Rattle.group_history.specs.State.{State, view_of, replayed as map_after};
-ghost use Rattle.group_history.specs.declared.mutations.Mutation.{Mutation as Mutated};
+ghost use Rattle.group_history.specs.declared.mutations.MutationFields.{MutationFields as Mutated};
 ghost use Rattle.group_history.specs.declared.refs.Ref.{Ref as Reference};
 ghost use Rattle.group_history.specs.declared.refusals.Refusal.TheVariants.{NoMemory, Stamps};
 ghost use Rattle.map_chunks.specs.Drafts.{AddsNeeded, IsLate};

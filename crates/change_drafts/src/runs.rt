@@ -67,8 +67,9 @@ fn run_over<V: WriteView, M: Runs>(
     ensures left { IfOk result (λ found. IfNone found (V.contents view.new ≡ V.contents view.old)) }
     ensures stopped { IfErr result (λ s. (s ≡ stop.NoMemory) ⊎ V.stops s) }
 {
-    let name = mutation.name.as_str();
-    mutators.run_if_any(alloc, name, &mutation.args, mutation.reason, view)
+    let said = mutation.fields();
+    let name = said.name.as_str();
+    mutators.run_if_any(alloc, name, &said.args, said.reason, view)
 }
 
 /// Runs a mutation's mutator on a tree over nodes that are placed, for the mutation's reason, if the group has it.

@@ -7,7 +7,7 @@ ghost use Rattle.std.specs.Prelude.{◌≡◌, ◌++◌, List, [], ◌∷◌, tr
 ghost use Rattle.group_history.specs.Pulling.{overwritten};
 ghost use Rattle.group_history.specs.Spelling.{said_id, tells_right};
 ghost use Rattle.group_history.specs.State.{Ids, State};
-ghost use Rattle.group_history.specs.declared.mutations.Mutation.{Mutation as Mutated};
+ghost use Rattle.group_history.specs.declared.mutations.MutationFields.{MutationFields as Mutated};
 ghost use Rattle.change_drafts.specs.Pending.{with_more};
 
 use commit_graph::NEAR_COMMITS;
@@ -20,7 +20,7 @@ fn begins_with(mutations: &[Mutation], client: &Text) -> bool
         × (first.client ≡ client.now) }
 {
     match mutations.split_first() {
-        Some((first, _)) => first.client == *client,
+        Some((first, _)) => first.fields().client == *client,
         None => false,
     }
 }
@@ -33,10 +33,13 @@ fn said_ids(alloc: Global, mutations: &[Mutation]) -> Result<Vec<Confirmed>, All
     let mut said = Vec::new(alloc);
     let mut left = mutations;
     while let Some((mutation, behind)) = left.split_first() {
-        if !begins_with(behind, &mutation.client) {
-            let client = mutation.client.clone()?;
-            let id = mutation.id;
-            said.push(Confirmed { client, id })?;
+        if !begins_with(behind, &mutation.fields().client) {
+            let fields = mutation.fields();
+            let client = fields.client.clone()?;
+            said.push(Confirmed {
+                client,
+                id: fields.id,
+            })?;
         }
         left = behind;
     }

@@ -4,7 +4,7 @@ use Rattle.std.proofs.Common.{append_assoc, arith, get_or}
 use Rattle.std.proofs.lemmas.List.Elements.{All-append}
 use Rattle.std.proofs.lemmas.List.{reverse-append}
 use Rattle.group_history.specs.declared.changes.Change.TheVariants.{Pulled}
-use Rattle.group_history.specs.declared.mutations.Mutation.{Mutation}
+use Rattle.group_history.specs.declared.mutations.MutationFields.{MutationFields as Mutation}
 use Rattle.group_history.specs.Cookies.{Cookie}
 use Rattle.group_history.specs.Map.{Bytes, Entries}
 use Rattle.group_history.specs.Meaning.{Meanings}

@@ -7,7 +7,7 @@ use Rattle.group_history.proofs.Replays.{replayed-append}
 use Rattle.std.specs.Prelude.{IfOk, if◌then◌else◌}
 use Rattle.group_history.specs.declared.changes.Change.{Change}
 use Rattle.group_history.specs.declared.changes.Change.TheVariants.{Mutated, Pulled}
-use Rattle.group_history.specs.declared.mutations.Mutation.{Mutation}
+use Rattle.group_history.specs.declared.mutations.MutationFields.{MutationFields as Mutation}
 use Rattle.group_history.specs.declared.mutators.Ran.{Ran}
 use Rattle.group_history.specs.declared.mutators.Ran.TheVariants as ran
 use Rattle.group_history.specs.declared.refs.Ref.{Ref}

@@ -1,7 +1,7 @@
 -- Mutations that stay pending, run one after the other: words between the steps.
 use Rattle.std.specs.Prelude.{◌≡◌, Bool, true, false, List, [], ◌∷◌, ◌++◌, reverse, Some}
 use Rattle.std.specs.List.{All}
-use Rattle.group_history.specs.declared.mutations.Mutation.{Mutation}
+use Rattle.group_history.specs.declared.mutations.MutationFields.{MutationFields as Mutation}
 use Rattle.group_history.specs.Map.{Bytes, Entries}
 use Rattle.group_history.specs.Meaning.{Meanings}
 use Rattle.group_history.specs.Spelling.{Contents}

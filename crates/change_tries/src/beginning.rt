@@ -2,7 +2,7 @@
 ghost use Rattle.std.specs.Prelude.{ℕ, ◌≡◌, ◌++◌, List, [], ◌∷◌, true, false, Ok, Some, IfOk, IfErr, IfSome, length};
 ghost use Rattle.group_history.specs.Cookies.{Cookie as Cookied};
 ghost use Rattle.group_history.specs.declared.changes.Change.TheVariants as changed;
-ghost use Rattle.group_history.specs.declared.mutations.Mutation.{Mutation as Mutated};
+ghost use Rattle.group_history.specs.declared.mutations.MutationFields.{MutationFields as Mutated};
 ghost use Rattle.group_history.specs.declared.refusals.Refusal.TheVariants as refusal;
 ghost use Rattle.group_history.specs.declared.responses.Ended.TheVariants as ended;
 ghost use Rattle.group_history.specs.Map.{patched};
@@ -61,7 +61,7 @@ pub(crate) fn catch_up<M: Means, S: Slots<M>>(
         (record { at = caught.at; id = found.id }) (changed.Mutated mutation.now)) }
     ensures err { IfErr result (IsStoreRefusal S.reused) }
 {
-    let SoughtId { id, is_far } = last_known(at, &mutation.client, Some(found))?;
+    let SoughtId { id, is_far } = last_known(at, &mutation.fields().client, Some(found))?;
     if id != found.id {
         return Ok(CaughtUp {
             at: found.at,

@@ -3,7 +3,7 @@ ghost use Rattle.std.specs.Prelude.{ℕ, ◌≡◌, ◌++◌, List, [], ◌∷�
 ghost use Rattle.std.specs.Prelude.{reverse};
 ghost use Rattle.group_history.specs.Cookies.{Cookie as Cookied};
 ghost use Rattle.group_history.specs.declared.changes.Change.TheVariants as changed;
-ghost use Rattle.group_history.specs.declared.mutations.Mutation.{Mutation as Mutated};
+ghost use Rattle.group_history.specs.declared.mutations.MutationFields.{MutationFields as Mutated};
 ghost use Rattle.group_history.specs.declared.refusals.Refusal.TheVariants as refusal;
 ghost use Rattle.group_history.specs.Map.{Entries};
 ghost use Rattle.group_history.specs.Meaning.{Meaning, meaning_of, left_by};

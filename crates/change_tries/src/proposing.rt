@@ -7,7 +7,7 @@ ghost use Rattle.group_history.specs.Mutating.{mutate_reply};
 ghost use Rattle.group_history.specs.Refs.{stamp_of};
 ghost use Rattle.group_history.specs.State.{last_id};
 ghost use Rattle.group_history.specs.declared.changes.Change.TheVariants as changed;
-ghost use Rattle.group_history.specs.declared.mutations.Mutation.{Mutation as Mutated};
+ghost use Rattle.group_history.specs.declared.mutations.MutationFields.{MutationFields as Mutated};
 ghost use Rattle.group_history.specs.declared.refusals.Refusal.TheVariants as refusal;
 ghost use Rattle.head_word.specs.Books.{drawn};
 ghost use Rattle.map_chunks.specs.Drafts.{IsLate};
@@ -71,7 +71,7 @@ pub fn check_next<M: Means, S: Slots<M>>(
     ensures err { IfErr result (λ e. IsStoreRefusal S.reused e ⊎ ((e ≡ refusal.Stale)
         × (mutate_reply M.means (state_at at.now) before.id mutation.now ≡ Err refusal.Stale))) }
 {
-    let last = last_known(at, &mutation.client, Some(before))?;
+    let last = last_known(at, &mutation.fields().client, Some(before))?;
     if last.id != before.id {
         return Err(Refusal::Stale);
     }

@@ -2,7 +2,7 @@
 use Rattle.std.proofs.Common.{◌≡◌, ℕ, Bool, List, Option, Some, None, Result, Ok, Err, refl, true, ◌∙◌}
 use Rattle.std.specs.Prelude.{⊤, [], IfErr, IfOk}
 use Rattle.std.specs.FinMap as finite
-use Rattle.group_history.specs.declared.mutations.Mutation.{Mutation}
+use Rattle.group_history.specs.declared.mutations.MutationFields.{MutationFields as Mutation}
 use Rattle.group_history.specs.declared.refusals.Refusal.{Refusal}
 use Rattle.group_history.specs.Cookies.{Cookie}
 use Rattle.group_history.specs.Map.{Bytes}

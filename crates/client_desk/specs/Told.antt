@@ -4,7 +4,7 @@ use Rattle.group_history.specs.declared.refusals.Refusal.{Refusal}
 use Rattle.group_history.specs.declared.refusals.Refusal.TheVariants.{NoMemory}
 use Rattle.group_history.specs.declared.responses.Ended.{Ended}
 use Rattle.group_history.specs.declared.responses.Ended.TheVariants.{Applied, Same}
-use Rattle.group_history.specs.declared.mutations.Mutation.{Mutation}
+use Rattle.group_history.specs.declared.mutations.MutationFields.{MutationFields as Mutation}
 use Rattle.group_history.specs.declared.mutations.Reason.{Reason}
 use Rattle.group_history.specs.declared.mutations.Reason.TheVariants.{Initial, Rebase}
 use Rattle.group_history.specs.Cookies.{Cookie}

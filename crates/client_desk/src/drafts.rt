@@ -30,7 +30,7 @@ pub(crate) fn tell_name<M: Means + Sync>(
 {
     let mutation = asking.mutation();
     if bytes
-        .extend_from_slice(mutation.name.as_str().as_bytes())
+        .extend_from_slice(mutation.fields().name.as_str().as_bytes())
         .is_err()
     {
         bytes.clear();
@@ -62,7 +62,7 @@ pub(crate) fn tell_run<M: Means + Sync>(
 fn reason_outcome(mutation: &Mutation) -> Outcome
     ensures { result ≡ Number (reason_number mutation.now.reason) }
 {
-    match mutation.reason {
+    match mutation.fields().reason {
         Reason::Initial => Outcome::Number(0),
         Reason::Rebase => Outcome::Number(1),
     }
@@ -78,7 +78,7 @@ pub(crate) fn tell_args<M: Means + Sync>(
 {
     let mutation = asking.mutation();
     wrote(
-        bytes.extend_from_slice(mutation.args.text().as_bytes()),
+        bytes.extend_from_slice(mutation.fields().args.text().as_bytes()),
         bytes,
     )
 }

@@ -74,9 +74,10 @@ pub(crate) fn print_rows(rows: &[(Text, Json)], out: &mut Vec<u8>) -> Result<(),
 fn print_pending_row(mutation: &Mutation, out: &mut Vec<u8>) -> Result<(), AllocError>
     ensures { OnOk result (out.new.items ≡ out.old.items ++ pending_row mutation.now) }
 {
-    print_quoted(out, "[", mutation.client.as_str())?;
-    print_number(out, ",", mutation.id)?;
-    print_quoted(out, ",", mutation.name.as_str())?;
+    let fields = mutation.fields();
+    print_quoted(out, "[", fields.client.as_str())?;
+    print_number(out, ",", fields.id)?;
+    print_quoted(out, ",", fields.name.as_str())?;
     said(out, "]", &[])
 }
 

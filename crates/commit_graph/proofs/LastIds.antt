@@ -3,7 +3,7 @@ use Rattle.std.proofs.Common.{◌≡◌, ℕ, ◌+◌, ◌<◌, max, Bool, true,
 use Rattle.std.proofs.Common.{ap, subst, ◌∙◌, arith, append-nil}
 use Rattle.std.specs.Prelude.{if◌then◌else◌}
 use Rattle.std.proofs.lemmas.List.Sums.{fold-append}
-use Rattle.group_history.specs.declared.mutations.Mutation.{Mutation}
+use Rattle.group_history.specs.declared.mutations.MutationFields.{MutationFields as Mutation}
 use Rattle.group_history.specs.Ids.{AreConsecutive}
 use Rattle.group_history.specs.Map.{Bytes, same_text}
 use Rattle.group_history.specs.State.{State, confirmed_id, ids_of, last_id}

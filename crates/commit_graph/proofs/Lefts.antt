@@ -5,7 +5,7 @@ use Rattle.std.specs.List.{filter}
 use Rattle.std.proofs.lemmas.List.{map-append}
 use Rattle.std.proofs.lemmas.List.Elements.{filter-append}
 use mathlib.Core.List.{reverse-append}
-use Rattle.group_history.specs.declared.mutations.Mutation.{Mutation}
+use Rattle.group_history.specs.declared.mutations.MutationFields.{MutationFields as Mutation}
 use Rattle.group_history.specs.declared.nodes.Commit.{Commit}
 use Rattle.group_history.specs.declared.nodes.CommitKind.{CommitKind}
 use Rattle.group_history.specs.declared.nodes.CommitKind.TheVariants.{Snapshot, Over}

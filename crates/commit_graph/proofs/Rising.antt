@@ -8,7 +8,7 @@ use Rattle.group_history.specs.declared.nodes.CommitKind.{CommitKind}
 use Rattle.group_history.specs.declared.nodes.CommitKind.TheVariants.{Snapshot, Over}
 use Rattle.group_history.specs.declared.nodes.Snapshot.{Snapshot as Snapped}
 use Rattle.group_history.specs.declared.nodes.Node.TheVariants as node
-use Rattle.group_history.specs.declared.mutations.Mutation.{Mutation}
+use Rattle.group_history.specs.declared.mutations.MutationFields.{MutationFields as Mutation}
 use Rattle.group_history.specs.declared.refs.Ref.{Ref}
 use Rattle.group_history.specs.Refs.{stamp_of}
 use Rattle.group_history.specs.Naming.{renamed_kind}

@@ -131,8 +131,8 @@ fn id_in(step: &CommitChange, client: &Text) -> u64
 {
     match step {
         CommitChange::Local(mutation) => {
-            if mutation.client == *client {
-                mutation.id
+            if mutation.fields().client == *client {
+                mutation.fields().id
             } else {
                 0
             }
@@ -193,12 +193,12 @@ fn ends_with(ids: &[Confirmed], client: &Text) -> bool
 fn said_by(mutation: &Mutation, newer: &[Confirmed]) -> Result<Option<Confirmed>, AllocError>
     ensures { IfOk result (λ said. IsOlder newer.now (said_id mutation.now ∷ []) (newer.now ++ listed said)) }
 {
-    if ends_with(newer, &mutation.client) {
+    if ends_with(newer, &mutation.fields().client) {
         return Ok(None);
     }
     Ok(Some(Confirmed {
-        client: mutation.client.clone()?,
-        id: mutation.id,
+        client: mutation.fields().client.clone()?,
+        id: mutation.fields().id,
     }))
 }
 
@@ -223,8 +223,8 @@ fn told_by(
     match step {
         CommitChange::Local(mutation) => {
             let own = Confirmed {
-                client: mutation.client.clone()?,
-                id: mutation.id,
+                client: mutation.fields().client.clone()?,
+                id: mutation.fields().id,
             };
             ids.overwritten(alloc, &[own])
         }

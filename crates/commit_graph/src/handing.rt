@@ -6,7 +6,7 @@
 ghost use Rattle.std.specs.Prelude.{◌≡◌, ◌⊎◌, [], ◌∷◌, ◌++◌, List, reverse, Option, Some, IfOk, IfErr, OnOk, IsSome};
 ghost use Rattle.group_history.specs.Refs.{stamp_of};
 ghost use Rattle.group_history.specs.Spelling.{Version, version_at};
-ghost use Rattle.group_history.specs.declared.mutations.Mutation.{Mutation as Mutated};
+ghost use Rattle.group_history.specs.declared.mutations.MutationFields.{MutationFields as Mutated};
 ghost use Rattle.group_history.specs.declared.mutators.Stop.TheVariants.{NoMemory};
 ghost use Rattle.map_chunks.specs.Places.{Grows};
 ghost use Rattle.commit_graph.specs.Inside.Chains.{added_by, listed};

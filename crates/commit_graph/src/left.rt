@@ -59,8 +59,8 @@ fn keep(left: &mut LeftPending, mutation: &Mutation, ids: &ConfirmedIds) -> Resu
     ensures { IsAsked ids.now left.old.asked
         → OnOk result (Keeps ids.now left.old left.new (mutation.now ∷ [])) }
 {
-    if confirmed_of(&mut left.asked, &mutation.client, ids)? < mutation.id {
-        let again = mutation.rebased()?;
+    if confirmed_of(&mut left.asked, &mutation.fields().client, ids)? < mutation.fields().id {
+        let again = mutation.rebased(*left.mutations.allocator())?;
         left.mutations.push(again)?;
     }
     Ok(())

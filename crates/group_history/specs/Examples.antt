@@ -5,7 +5,7 @@ use Rattle.std.specs.declared.cmp.Ordering.TheVariants.{Less, Equal}
 use Rattle.std.specs.FinMap as finite
 use Rattle.group_history.specs.declared.cookies.Order.{Order}
 use Rattle.group_history.specs.declared.cookies.Order.TheVariants as order
-use Rattle.group_history.specs.declared.mutations.Mutation.{Mutation}
+use Rattle.group_history.specs.declared.mutations.MutationFields.{MutationFields as Mutation}
 use Rattle.group_history.specs.declared.mutations.Reason.{Reason}
 use Rattle.group_history.specs.declared.mutations.Reason.TheVariants.{Initial, Rebase}
 use Rattle.group_history.specs.declared.responses.Patch.{Patch}

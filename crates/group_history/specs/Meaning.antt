@@ -3,7 +3,7 @@
 use Rattle.std.specs.Prelude.{ℕ, Option, Some, None}
 use Rattle.serde_json.specs.Data.{Data}
 use Rattle.group_history.specs.declared.mutations.Reason.{Reason}
-use Rattle.group_history.specs.declared.mutations.Mutation.{Mutation}
+use Rattle.group_history.specs.declared.mutations.MutationFields.{MutationFields as Mutation}
 use Rattle.group_history.specs.Map.{Bytes, Entries}
 use Rattle.group_history.specs.Json.{reading}
 use Rattle.group_history.specs.Cookies.{value_read}

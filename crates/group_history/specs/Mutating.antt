@@ -4,7 +4,7 @@
 use Rattle.std.specs.Prelude.{ℕ, ◌+◌, [], ◌∷◌, ◌++◌, nat_eq, if◌then◌else◌, Result, Ok, Err}
 use Rattle.group_history.specs.declared.refusals.Refusal.{Refusal}
 use Rattle.group_history.specs.declared.refusals.Refusal.TheVariants as refusal
-use Rattle.group_history.specs.declared.mutations.Mutation.{Mutation}
+use Rattle.group_history.specs.declared.mutations.MutationFields.{MutationFields as Mutation}
 use Rattle.group_history.specs.Map.{Entries}
 use Rattle.group_history.specs.Meaning.{Meaning, Meanings, unknown, refuses, done, meaning_of}
 use Rattle.group_history.specs.State.{State, state, view_of, last_id}

@@ -14,7 +14,7 @@ use Rattle.group_history.specs.declared.responses.Ended.{Ended}
 use Rattle.group_history.specs.declared.responses.Ended.TheVariants as ended
 use Rattle.group_history.specs.declared.refusals.Refusal.{Refusal}
 use Rattle.group_history.specs.declared.refusals.Refusal.TheVariants as refusal
-use Rattle.group_history.specs.declared.mutations.Mutation.{Mutation}
+use Rattle.group_history.specs.declared.mutations.MutationFields.{MutationFields as Mutation}
 use Rattle.group_history.specs.Map.{Bytes, same_text, patched}
 use Rattle.group_history.specs.Cookies.{Cookie, order_cmp}
 use Rattle.group_history.specs.Pull.{Pull}

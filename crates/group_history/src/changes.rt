@@ -39,7 +39,7 @@ impl Change {
         ensures { result ≡ reply_of self.now }
     {
         match self {
-            Change::Mutated(mutation) => Reply::Id(mutation.id),
+            Change::Mutated(mutation) => Reply::Id(mutation.fields().id),
             Change::Pulled(_, _) => Reply::Ended(Ended::Applied),
             Change::Closed => Reply::StateNotFound,
         }

@@ -55,7 +55,7 @@ pub use confirmed::ConfirmedIds;
 pub use cookies::{Cookie, Order, cookie_cmp};
 pub use json::{Json, is_whole, nests_within, read_value};
 pub use laws::{record_laws, worked_examples};
-pub use mutations::{Mutation, Reason};
+pub use mutations::{Mutation, MutationFields, Reason};
 pub use mutators::{Means, Mutators, Ran, Stop, Update, WriteView};
 pub use nodes::{
     BoxedCommit, Child, Chunk, Commit, CommitChange, CommitKind, Inner, Keys, Leaf, Node, Snapshot,

@@ -4,7 +4,9 @@ ghost use Rattle.group_history.specs.State.{made, rebased};
 
 use crate::json::Json;
 use crate::texts::Text;
-use std::alloc::AllocError;
+use std::alloc::{AllocError, Global};
+use std::marker::Model;
+use std::sync::Arc;
 
 /// Why a mutator is run (Replicache, `WriteTransaction`, "reason").
 #[derive(Clone, Copy, Debug, PartialEq, Eq)]
@@ -16,10 +18,9 @@ pub enum Reason {
     Rebase,
 }
 
-/// A mutation that a client made and the server has not confirmed. Its fields are those of the Push
-/// Endpoint Reference, version 1, and the reason with which it is replayed, which no request shows.
-#[derive(Clone)]
-pub struct Mutation {
+/// What a mutation says: the fields of the Push Endpoint Reference, version 1, and the reason with which it is replayed,
+/// which no request shows.
+pub struct MutationFields {
     /// The client's ID.
     pub client: Text,
     /// Sequential per client; the first is 1.
@@ -34,9 +35,9 @@ pub struct Mutation {
     pub reason: Reason,
 }
 
-impl Drop for Mutation {
+impl Drop for MutationFields {
     fn drop(self) {
-        let Mutation {
+        let MutationFields {
             client,
             id: _,
             name,
@@ -50,9 +51,66 @@ impl Drop for Mutation {
     }
 }
 
+impl MutationFields {
+    // These fields, with copies of the texts.
+    fn copied(&self, reason: Reason) -> Result<MutationFields, AllocError>
+        ensures { IfOk result (λ x. x ≡ record {
+          client = self.now.client;
+          id = self.now.id;
+          name = self.now.name;
+          args = self.now.args;
+          timestamp = self.now.timestamp;
+          reason = reason;
+        }) }
+    {
+        let client = self.client.clone()?;
+        let name = self.name.clone()?;
+        let args = self.args.clone()?;
+        Ok(MutationFields {
+            client,
+            id: self.id,
+            name,
+            args,
+            timestamp: self.timestamp,
+            reason,
+        })
+    }
+}
+
+/// A mutation that a client made and the server has not confirmed. A clone shares what it says.
+pub struct Mutation {
+    fields: Arc<MutationFields>,
+}
+
+impl Drop for Mutation {
+    fn drop(self) {
+        let Mutation { fields } = self;
+        drop(fields);
+    }
+}
+
+impl Model for Mutation {
+    ghost use Rattle.std.specs.Arc.{arc_value};
+    ghost use Rattle.group_history.specs.declared.mutations.MutationFields.{MutationFields};
+
+    ghost Value = { MutationFields };
+
+    ghost view = { λ m. arc_value m.fields };
+}
+
+impl Clone for Mutation {
+    ghost is_clone = { λ m copy. copy ≡ m };
+
+    fn clone(&self) -> Result<Mutation, AllocError> {
+        let fields = self.fields.clone()?;
+        Ok(Mutation { fields })
+    }
+}
+
 impl Mutation {
     /// A mutation that its client makes, so for the reason Initial.
     pub fn new(
+        alloc: Global,
         client: &Text,
         id: u64,
         name: &Text,
@@ -64,22 +122,38 @@ impl Mutation {
         let client = client.clone()?;
         let name = name.clone()?;
         let args = args.clone()?;
-        Ok(Mutation {
+        let fields = MutationFields {
             client,
             id,
             name,
             args,
             timestamp,
             reason: Reason::Initial,
-        })
+        };
+        let fields = Arc::new(alloc, fields)?;
+        Ok(Mutation { fields })
     }
 
-    /// The mutation as an applied pull leaves it: to be replayed for the reason Rebase.
-    pub fn rebased(&self) -> Result<Mutation, AllocError>
+    /// What the mutation says.
+    #[inline(always)]
+    pub fn fields(&self) -> &MutationFields
+        ensures { result.now ≡ self.now }
+    {
+        &self.fields
+    }
+
+    /// The mutation as an applied pull leaves it: to be replayed for the reason Rebase. One that is so already is shared.
+    pub fn rebased(&self, alloc: Global) -> Result<Mutation, AllocError>
         ensures { IfOk result (λ x. x ≡ rebased self.now) }
     {
-        let mut mutation = self.clone()?;
-        mutation.reason = Reason::Rebase;
-        Ok(mutation)
+        let fields = self.fields();
+        match fields.reason {
+            Reason::Rebase => self.clone(),
+            Reason::Initial => {
+                let again = fields.copied(Reason::Rebase)?;
+                let fields = Arc::new(alloc, again)?;
+                Ok(Mutation { fields })
+            }
+        }
     }
 }

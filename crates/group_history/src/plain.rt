@@ -252,7 +252,7 @@ impl<M: Mutators> PlainGroup<M> {
             return Err(Refusal::Stale);
         }
         let id = last + 1;
-        let mutation = Mutation::new(client, id, name, args, time)?;
+        let mutation = Mutation::new(self.alloc, client, id, name, args, time)?;
         self.accept(mutators, mutation)?;
         Ok(id)
     }

@@ -30,8 +30,14 @@ impl PlainView {
         ensures ran { IfOk result (λ ran. RunsAs (meaning_of M.means mutation.now self.old.map) ran self.new.map) }
         ensures stopped { IfErr result (λ stop. stop ≡ NoMemory) }
     {
-        let name = mutation.name.as_str();
-        mutators.run(self.alloc, name, &mutation.args, mutation.reason, self)
+        let name = mutation.fields().name.as_str();
+        mutators.run(
+            self.alloc,
+            name,
+            &mutation.fields().args,
+            mutation.fields().reason,
+            self,
+        )
     }
 }
 

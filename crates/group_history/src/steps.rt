@@ -42,8 +42,8 @@ pub(crate) fn greatest_id(first: u64, client: &Text, pending: &[Mutation]) -> u6
 {
     pending
         .iter()
-        .filter(|m| m.client == *client)
-        .map(|m| m.id)
+        .filter(|m| m.fields().client == *client)
+        .map(|m| m.fields().id)
         .fold(first, |greatest, id| greatest.max(id))
 }
 
@@ -80,8 +80,8 @@ pub fn keep_unconfirmed(
 {
     let mut kept = Vec::new(alloc);
     for mutation in pending {
-        if confirmed_id_of(ids, &mutation.client) < mutation.id {
-            kept.push(mutation.rebased()?)?;
+        if confirmed_id_of(ids, &mutation.fields().client) < mutation.fields().id {
+            kept.push(mutation.rebased(alloc)?)?;
         }
     }
     Ok(kept)

@@ -1,7 +1,7 @@
 -- The body of a push as it grows.
 use Rattle.std.proofs.Common.{◌≡◌, List, [], ◌∷◌, ◌++◌, true, refl, sym, ap, ◌∙◌, append_assoc}
 use Rattle.std.proofs.lemmas.List.Folds.{concat-append}
-use Rattle.group_history.specs.declared.mutations.Mutation.{Mutation}
+use Rattle.group_history.specs.declared.mutations.MutationFields.{MutationFields as Mutation}
 use Rattle.group_history.specs.Map.{Bytes}
 use Rattle.push_body.specs.declared.identities.Identity.{Identity}
 use Rattle.push_body.specs.Bodies.{mutation_text, mutations_text, push_text}

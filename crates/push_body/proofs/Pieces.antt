@@ -1,6 +1,6 @@
 -- The pieces that the bodies are made of, in order.
 use Rattle.std.proofs.Common.{List, [], ◌∷◌, codes, decimal}
-use Rattle.group_history.specs.declared.mutations.Mutation.{Mutation}
+use Rattle.group_history.specs.declared.mutations.MutationFields.{MutationFields as Mutation}
 use Rattle.group_history.specs.Map.{Bytes}
 use Rattle.group_history.specs.Cookies.{Cookie}
 use Rattle.push_body.specs.declared.identities.Identity.{Identity}

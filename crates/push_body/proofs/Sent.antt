@@ -19,7 +19,7 @@ use Rattle.serde_json.specs.Data.{Data, array, Items, no_items, item, depth, ite
 use Rattle.serde_json.specs.Read.{of_items, read}
 use Rattle.serde_json.specs.Written.{items_outline, has_float, compact_text, items_text}
 use Rattle.serde_json.proofs.Numbers.{number_of-decimal}
-use Rattle.group_history.specs.declared.mutations.Mutation.{Mutation}
+use Rattle.group_history.specs.declared.mutations.MutationFields.{MutationFields as Mutation}
 use Rattle.group_history.specs.declared.refusals.Refusal.{Refusal}
 use Rattle.group_history.specs.declared.refusals.Refusal.TheVariants.{NotJson, NotWhole}
 use Rattle.group_history.specs.Map.{Bytes}

@@ -5,7 +5,7 @@ use Rattle.std.specs.Prelude.{List, [], ◌∷◌, map, codes, decimal}
 use Rattle.std.specs.List.{concat, join_with_byte}
 use Rattle.serde_json.specs.Data.{string}
 use Rattle.serde_json.specs.Written.{compact_text}
-use Rattle.group_history.specs.declared.mutations.Mutation.{Mutation}
+use Rattle.group_history.specs.declared.mutations.MutationFields.{MutationFields as Mutation}
 use Rattle.group_history.specs.Map.{Bytes}
 use Rattle.group_history.specs.Cookies.{Cookie}
 use Rattle.push_body.specs.declared.identities.Identity.{Identity}

@@ -2,7 +2,7 @@
 -- (RFC 8259), and arrays of them.
 use Rattle.std.specs.Prelude.{List, [], ◌∷◌, codes, decimal}
 use Rattle.std.specs.List.{concat, join_with_byte}
-use Rattle.group_history.specs.declared.mutations.Mutation.{Mutation}
+use Rattle.group_history.specs.declared.mutations.MutationFields.{MutationFields as Mutation}
 use Rattle.group_history.specs.Map.{Bytes}
 use Rattle.push_body.specs.Bodies.{quoted}
 

@@ -4,7 +4,7 @@
 //! list of them. `HasWritten` says whose body it is and which mutations stand in it, and each call says what becomes
 //! of that. What a writer has after an error is not told: one that met an error is let go.
 ghost use Rattle.std.specs.Prelude.{◌≡◌, [], ◌∷◌, ◌++◌, List, IfOk, OnOk};
-ghost use Rattle.group_history.specs.declared.mutations.Mutation.{Mutation as Mutated};
+ghost use Rattle.group_history.specs.declared.mutations.MutationFields.{MutationFields as Mutated};
 ghost use Rattle.push_body.specs.declared.identities.Identity.{Identity as Identified};
 ghost use Rattle.push_body.specs.Bodies.{mutation_text, push_text};
 ghost use Rattle.push_body.specs.Written.{HasWritten, comma_text, head_text, tail_text};
@@ -81,10 +81,11 @@ pub fn mutation_bytes(alloc: Global, mutation: &Mutation) -> Result<Vec<u8>, All
 
 // About how many bytes a mutation takes: room that is taken at once. What doesn't fit makes the body grow.
 fn room_for(mutation: &Mutation) -> usize {
+    let said = mutation.fields();
     BYTES_AROUND
-        .saturating_add(mutation.args.text().len())
-        .saturating_add(mutation.client.as_str().len())
-        .saturating_add(mutation.name.as_str().len())
+        .saturating_add(said.args.text().len())
+        .saturating_add(said.client.as_str().len())
+        .saturating_add(said.name.as_str().len())
 }
 
 fn push_head(body: &mut BodyText, identity: &Identity) -> Result<(), AllocError>
@@ -104,12 +105,13 @@ fn push_comma(body: &mut BodyText, any: bool) -> Result<(), AllocError>
 fn push_mutation(body: &mut BodyText, mutation: &Mutation) -> Result<(), AllocError>
     ensures { OnOk result (body.new ≡ body.old ++ mutation_text mutation.now) }
 {
+    let said = mutation.fields();
     body.raw(r#"{"args":"#)?;
-    body.raw(mutation.args.text())?;
-    body.text_field(r#","clientID":"#, mutation.client.as_str())?;
-    body.number_field(r#","id":"#, mutation.id)?;
-    body.text_field(r#","name":"#, mutation.name.as_str())?;
-    body.number_field(r#","timestamp":"#, mutation.timestamp)?;
+    body.raw(said.args.text())?;
+    body.text_field(r#","clientID":"#, said.client.as_str())?;
+    body.number_field(r#","id":"#, said.id)?;
+    body.text_field(r#","name":"#, said.name.as_str())?;
+    body.number_field(r#","timestamp":"#, said.timestamp)?;
     body.raw("}")
 }
 

@@ -18,7 +18,7 @@ use crate::calls::CallReply;
 use crate::client::Client;
 use crate::tickets::Ticket;
 use change_drafts::Runs;
-use change_tries::{ChangeCall, ask_from};
+use change_tries::{ChangeCall, SharedGroup, ask_from};
 use chunk_slots::Store;
 use commit_graph::LastId;
 use group_history::{Change, Json, Mutation, PullOk, Refusal, Response, Text, VersionKind};
@@ -70,7 +70,9 @@ impl<M: Runs, S: Store<M>> Client<M, S> {
         ensures first { TellsAsked result (IsFirstAsked M.has) (λ client reply. Unit {0}) }
         ensures fresh { TellsAsked result (IsUnwritten M.has) (λ client reply. Unit {0}) }
     {
-        match Mutation::new(&self.id, self.last + 1, name, args, time) {
+        let group: &SharedGroup<M, S> = &self.group;
+        let alloc = group.shared.alloc;
+        match Mutation::new(alloc, &self.id, self.last + 1, name, args, time) {
             Ok(mutation) => {
                 return self.ask(Change::Mutated(mutation), tries);
             }

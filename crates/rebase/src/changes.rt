@@ -161,7 +161,9 @@ impl<M: Mutators, S: Store<M>> Client<M, S> {
             self.old.seat self.new.seat
             (change_made (made self.old.id (self.old.last + 1) name.now args.now time) result) }
     {
-        let mutation = match Mutation::new(&self.id, self.last + 1, name, args, time) {
+        let group: &SharedGroup<M, S> = &self.group;
+        let alloc = group.shared.alloc;
+        let mutation = match Mutation::new(alloc, &self.id, self.last + 1, name, args, time) {
             Ok(mutation) => mutation,
             Err(e) => {
                 return self.refuse(Refusal::from(e));

@@ -86,11 +86,12 @@ impl Said {
     }
 
     fn say_mutation(&mut self, mutation: &Mutation) {
+        let said = mutation.fields();
         self.say("[");
-        self.say_quoted(mutation.client.as_str());
-        self.say_number(",", mutation.id);
+        self.say_quoted(said.client.as_str());
+        self.say_number(",", said.id);
         self.say(",");
-        self.say_quoted(mutation.name.as_str());
+        self.say_quoted(said.name.as_str());
         self.say("]");
     }
 

@@ -57,7 +57,7 @@ fn identity_and_rest(alloc: Global, given: &str) -> Result<(Identity, &str), Ref
 fn incremented(alloc: Global, client: &Text) -> Result<Mutation, Refusal> {
     let name = Text::new(alloc, "incr")?;
     let args = Json::read(alloc, b"[\"n\",1]")?;
-    Ok(Mutation::new(client, 1, &name, &args, 1000)?)
+    Ok(Mutation::new(alloc, client, 1, &name, &args, 1000)?)
 }
 
 /// One increment for each client.

@@ -8,7 +8,7 @@ use Rattle.group_history.specs.declared.nodes.CommitChange.{CommitChange}
 use Rattle.group_history.specs.declared.nodes.CommitChange.TheVariants.{Local, Closed}
 use Rattle.group_history.specs.declared.nodes.Snapshot.{Snapshot as Snapped}
 use Rattle.group_history.specs.declared.nodes.Node.TheVariants as node
-use Rattle.group_history.specs.declared.mutations.Mutation.{Mutation}
+use Rattle.group_history.specs.declared.mutations.MutationFields.{MutationFields as Mutation}
 use Rattle.group_history.specs.declared.refs.Ref.{Ref}
 use Rattle.group_history.specs.Map.{Bytes, same_text}
 use Rattle.group_history.specs.Cookies.{Cookie}

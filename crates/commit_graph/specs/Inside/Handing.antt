@@ -1,6 +1,6 @@
 -- What the commits of a chain add, from its oldest on.
 use Rattle.std.specs.Prelude.{◌≡◌, ℕ, List, [], ◌∷◌, ◌++◌, slice_get, Option, Some, None, IsSome}
-use Rattle.group_history.specs.declared.mutations.Mutation.{Mutation}
+use Rattle.group_history.specs.declared.mutations.MutationFields.{MutationFields as Mutation}
 use Rattle.group_history.specs.declared.nodes.Commit.{Commit}
 use Rattle.group_history.specs.declared.nodes.CommitKind.{CommitKind}
 use Rattle.group_history.specs.declared.nodes.CommitKind.TheVariants.{Snapshot, Over}

@@ -1,6 +1,6 @@
 -- What is kept of a chain's mutations where more ids are confirmed.
 use Rattle.std.specs.Prelude.{◌≡◌, List, ◌++◌, Option, IfSome}
-use Rattle.group_history.specs.declared.mutations.Mutation.{Mutation}
+use Rattle.group_history.specs.declared.mutations.MutationFields.{MutationFields as Mutation}
 use Rattle.group_history.specs.declared.responses.Confirmed.{Confirmed}
 use Rattle.group_history.specs.Pulling.{left_pending}
 use Rattle.group_history.specs.State.{Ids, confirmed_id}

@@ -1,6 +1,6 @@
 -- What a group of one thread keeps.
 use Rattle.std.specs.Prelude.{◌≡◌, List}
-use Rattle.group_history.specs.declared.mutations.Mutation.{Mutation}
+use Rattle.group_history.specs.declared.mutations.MutationFields.{MutationFields as Mutation}
 use Rattle.group_history.specs.Map.{Entries}
 use Rattle.group_history.specs.Meaning.{Meanings}
 use Rattle.group_history.specs.State.{Ids, replayed}

@@ -188,7 +188,7 @@ fn mutation(alloc: Global, id: u64, name: &str, args: &str) -> Result<Mutation, 
     let client = Text::new(alloc, "a")?;
     let name = Text::new(alloc, name)?;
     let args = Json::read(alloc, args.as_bytes())?;
-    Ok(Mutation::new(&client, id, &name, &args, 0)?)
+    Ok(Mutation::new(alloc, &client, id, &name, &args, 0)?)
 }
 
 /// The nodes and the head of a group that pulled one key, with three mutations pending.

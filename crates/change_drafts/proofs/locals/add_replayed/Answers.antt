@@ -1,5 +1,5 @@
 use Rattle.std.proofs.Common.{◌≡◌, ◌∷◌, ◌++◌, [], true, IfOk, rules, refl, sym, ap, subst, ◌∙◌}
-use Rattle.group_history.specs.declared.mutations.Mutation.{Mutation}
+use Rattle.group_history.specs.declared.mutations.MutationFields.{MutationFields as Mutation}
 use Rattle.group_history.specs.Spelling.{Version, tells_right, version_of}
 use Rattle.group_history.specs.State.{replayed, view_of}
 use Rattle.map_chunks.specs.Places.{with_nodes}

@@ -1,5 +1,5 @@
 use Rattle.std.proofs.Common.{◌≡◌, ◌∙◌, List, Option, Some, ap, subst}
-use Rattle.group_history.specs.declared.mutations.Mutation.{Mutation}
+use Rattle.group_history.specs.declared.mutations.MutationFields.{MutationFields as Mutation}
 use Rattle.std.specs.Prelude.{IfSome}
 use Rattle.group_history.specs.State.{replayed}
 use Rattle.map_chunks.specs.Places.{with_nodes}

@@ -1,5 +1,5 @@
 use Rattle.std.proofs.Common.{◌≡◌, [], ◌∷◌, Some, sym, ap, rules, subst, ◌∙◌}
-use Rattle.group_history.specs.declared.mutations.Mutation.{Mutation}
+use Rattle.group_history.specs.declared.mutations.MutationFields.{MutationFields as Mutation}
 use Rattle.group_history.specs.Meaning.{meaning_of}
 use Rattle.group_history.specs.Spelling.{Contents}
 use Rattle.group_history.specs.State.{view_of}

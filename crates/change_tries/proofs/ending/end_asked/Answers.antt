@@ -1,7 +1,7 @@
 use Rattle.std.proofs.Common.{ap, sym, subst, ◌∙◌}
 use Rattle.std.specs.Prelude.{IfErr, IfOk}
 use Rattle.group_history.specs.declared.changes.Change.TheVariants.{Mutated}
-use Rattle.group_history.specs.declared.mutations.Mutation.{Mutation}
+use Rattle.group_history.specs.declared.mutations.MutationFields.{MutationFields as Mutation}
 use Rattle.group_history.specs.Map.{Entries}
 use Rattle.group_history.specs.Meaning.{meaning_of}
 use Rattle.group_history.specs.Ran.{RunsAs}

@@ -1,6 +1,6 @@
 use Rattle.std.proofs.Common.{◌∷◌, List, [], refl, reverse, sym, subst}
 use Rattle.std.specs.Prelude.{IfOk}
-use Rattle.group_history.specs.declared.mutations.Mutation.{Mutation}
+use Rattle.group_history.specs.declared.mutations.MutationFields.{MutationFields as Mutation}
 use Rattle.group_history.specs.Map.{Entries}
 use Rattle.group_history.specs.Meaning.{meaning_of}
 use Rattle.group_history.specs.Pulling.{after_pull}

@@ -1,5 +1,5 @@
 use Rattle.std.proofs.Common.{List, ◌++◌, reverse, sym, ap, ◌∙◌, append_assoc}
-use Rattle.group_history.specs.declared.mutations.Mutation.{Mutation}
+use Rattle.group_history.specs.declared.mutations.MutationFields.{MutationFields as Mutation}
 use Rattle.map_chunks.proofs.KeptLemmas.{grows_on}
 use Rattle.commit_graph.specs.Inside.Chains.{listed}
 use Rattle.commit_graph.proofs.Rising.{adds_stay, lowest}

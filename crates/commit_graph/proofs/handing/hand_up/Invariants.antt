@@ -1,5 +1,5 @@
 use Rattle.std.proofs.Common.{List, ◌++◌, reverse, vec_len}
-use Rattle.group_history.specs.declared.mutations.Mutation.{Mutation}
+use Rattle.group_history.specs.declared.mutations.MutationFields.{MutationFields as Mutation}
 use Rattle.map_chunks.specs.Places.{Grows}
 use Rattle.commit_graph.specs.Inside.Handing.{AddUp}
 use Rattle.commit_graph.proofs.Rising.{IsRise}

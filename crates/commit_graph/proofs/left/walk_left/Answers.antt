@@ -1,6 +1,6 @@
 use Rattle.std.proofs.Common.{List, [], ◌++◌, reverse, ap, sym, ◌∙◌}
 use Rattle.std.proofs.lemmas.List.{append-nil}
-use Rattle.group_history.specs.declared.mutations.Mutation.{Mutation}
+use Rattle.group_history.specs.declared.mutations.MutationFields.{MutationFields as Mutation}
 use Rattle.group_history.specs.Refs.{stamp_of}
 use Rattle.group_history.specs.Pulling.{left_pending}
 use Rattle.group_history.proofs.Lists.{prefix_self}

@@ -1,5 +1,5 @@
 use Rattle.std.proofs.Common.{◌≡◌, List}
-use Rattle.group_history.specs.declared.mutations.Mutation.{Mutation}
+use Rattle.group_history.specs.declared.mutations.MutationFields.{MutationFields as Mutation}
 use Rattle.group_history.specs.Pulling.{left_pending}
 use Rattle.group_history.specs.Refs.{stamp_of}
 use Rattle.map_chunks.specs.Places.{Grows}

@@ -20,6 +20,7 @@ returns c =
       c.text.ensures,
       c.as_str.ensures,
       c.as_str-2.ensures,
+      c.fields-said.ensures,
     )
     (fold-append c.args.body.now (mutation_pieces c.args.mutation.now)))
     c.raw-3.ensures
